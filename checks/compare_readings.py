@@ -1,8 +1,9 @@
 #!/usr/bin/env python3
-"""Compares the readings of stretches, of a month of all drivers and of the form for gaps with expected outputs and with the slow office.
+"""Compares the readings of stretches, of a month of all drivers, of a month's chart and of the form for gaps with expected outputs and with
+the slow office.
 
 The folders of checks/readings have commands, their input files, and what the readings print after them, computed by a program that shares
-no code with this repository. Then come random archives of two drivers: weeks with gaps and crew at any place, often at a Monday's first
+no code with this repository. Of a chart they have the lines of lib/charts.py. Then come random archives of two drivers: weeks with gaps and crew at any place, often at a Monday's first
 minute or beside it; bases before, within and after what is held; and the last minutes of 2099. Each form is filled in and entered: then no
 gap is left. Arguments: the program and `tool_script`. The last line is 'N passed, M failed'."""
 import os
@@ -13,8 +14,8 @@ import tempfile
 from typing import Any
 
 from inputs import random_cards
-from inputs.random_commands import KEYS, NAMES, date_text, driver_csv
-from lib import counting, files, pools
+from inputs.random_commands import KEYS, date_text, driver_csv
+from lib import charts, counting, files, pools
 from lib.script import of_commands
 from slow import slow_office, slow_reader
 
@@ -24,6 +25,7 @@ FOLDER = os.path.join(files.CHECKS, "readings")
 DAY, WEEK = 1440, 10_080
 LAST_DAY = 47_481  # 2099-12-31
 NUMBERS = [900, 17]
+NAMES = [b"Anna Berg", "Zo\u00eb <&> \uffff\ufffe".encode()]  # the second has characters that SVG escapes or replaces
 
 # Weeks of a driver: how many days the driver works, and the lengths of what is done on each.
 LENGTHS = [15, 30, 44, 45, 60, 120, 240, 269, 270, 271, 285]
@@ -57,8 +59,10 @@ def of_case(program, case):
             yield f"{case}: {' '.join(words)}", told(words, given), (f"{answer}\n".encode(), b"")
         expected = os.path.join(FOLDER, case, "expected")
         for name in sorted(os.listdir(expected)):
-            words = name.split("-", 1)
-            yield f"{case}: {name}", told(words), (files.read(os.path.join(expected, name)), b"")
+            words = name.split("-", 2 if name.startswith("chart-") else 1)
+            text, fault = told(words)
+            shown = charts.lines_of(text).encode() if words[0] == "chart" else text
+            yield f"{case}: {name}", (shown, fault), (files.read(os.path.join(expected, name)), b"")
 
 
 # Random archives
@@ -165,6 +169,8 @@ def commands_of(seed):
             add(["debts", number], b"")
             forms.append((number, add(["form", number], b"")))
         for month in sorted(months):
+            for number in map(str, NUMBERS):
+                add(["chart", number, month], b"")
             add(["overview", month], b"")
             add(["incidents", month], b"")
         return forms

@@ -53,6 +53,7 @@ CASES = {
     "another base": ([REGISTER], (["base", "17", "2024-03-11"], b"")),
     "a timeline": (WITH_DAY, (["spans", "17", "2024-03"], b"")),
     "a sheet": (WITH_DAY, (["sheet", "17", "2024-03"], b"")),
+    "a chart": (WITH_DAY, (["chart", "17", "2024-03"], b"")),
     "entries": ([*WITH_HOURS, SIGNED], (["entries", "17"], b"")),
     "a file": (WITH_DAY, (["file", "17", "1"], b"")),
     "drivers": ([*WITH_HOURS, OTHER], (["drivers"], b"")),

@@ -53,7 +53,7 @@ ANSWERS = {
     REQUESTS: "200 201 400 403 404 405 409 411 413 422 431",
 }
 
-Tried = collections.namedtuple("Tried", "name told wanted answers")  # no answers, where it isn't an input that is compared
+Tried = collections.namedtuple("Tried", "name told wanted answers")  # no answers if the input isn't compared
 
 
 def shown(number, *given):
@@ -91,7 +91,7 @@ def of_files(program, name, files):
 # Command lines
 
 COUNTS = {"dump": 0, "holder": 0, "card": 1, "init": 1, "migrate": 1, "register": 1, "drivers": 1, "import": 2, "enter": 2}
-COUNTS |= {"breaches": 2, "owed": 2, "entries": 2, "withdraw": 3, "base": 3, "spans": 3, "gaps": 3, "sheet": 3, "file": 3}
+COUNTS |= {"breaches": 2, "owed": 2, "entries": 2, "withdraw": 3, "base": 3, "spans": 3, "gaps": 3, "sheet": 3, "chart": 3, "file": 3}
 COUNTS |= {"stretches": 2, "debts": 2, "overview": 2, "incidents": 2, "form": 2}
 USAGE = b"", 2
 

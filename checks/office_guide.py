@@ -387,6 +387,8 @@ def months(office):
     yield office.typed("./tacho sheet archive.db 17 2024-03", office.told("debts", "17"))
     yield "the sheet", office.read("anna-2024-03.txt"), office.told("sheet", "17", "2024-03")
     yield "the spans", office.read("anna-2024-03.csv"), office.told("spans", "17", "2024-03")
+    yield office.typed("./tacho chart archive.db 17 2024-03", "")
+    yield "the chart", office.read("anna-2024-03.svg"), office.told("chart", "17", "2024-03")
     shown = office.block("2024-03-04 Mon")
     yield "a driver of long days", office.told("register", given=driver_like_anna(19, b"carl-key-1", "9")), "registered 19\n"
     day = [(0, 360, "rest"), (360, 1050, "drive"), (1050, 1440, "rest")]

@@ -166,7 +166,7 @@ class Files:
         return self.of_random_card() if self.chance.random() < 0.6 else self.of_example()
 
     def others_of(self, one: Block) -> list[Block]:
-        """What may stand in the place of a block: nothing, twice the same, or one with another identifier, kind or value."""
+        """What may replace a block: nothing, twice the same, or one with another identifier, kind or value."""
         identifier, kind, value = one
         if is_activity(one) and len(value) >= 16 and self.chance.random() < 0.85:
             return [(identifier, kind, Activity(self.chance, value).changed())]
@@ -290,7 +290,7 @@ class Texts(random_commands.Commands):
 
 # Command lines
 
-NAMES = ["dump", "holder", "card", "migrate", "register", "import", "enter", "withdraw", "base", "spans", "gaps", "sheet"]
+NAMES = ["dump", "holder", "card", "migrate", "register", "import", "enter", "withdraw", "base", "spans", "gaps", "sheet", "chart"]
 NAMES += ["breaches", "owed", "entries", "file", "drivers", "stretches", "debts", "overview", "incidents", "form", "help", "Sheet", ""]
 WORDS = [PATH, NO_TEXT, "", "17", "018", "0", "1000000", "both", "2024-03", "2024-03-04", "2100-01", "help", "-", "--", "-1", "-h"]
 WORDS += ["--help", "--all=1", "\u0661\u0667", 5_000 * "1", "no-archive"]

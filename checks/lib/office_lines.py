@@ -8,7 +8,7 @@ from slow.slow_office import Command
 
 LINES = 30
 FIRST_DAY = 10_957  # 2000-01-01, the first day of a month that is read
-READINGS = ["spans", "gaps", "sheet", "sheet", "breaches", "breaches", "owed", "owed", "entries", "entries", "file", "drivers", "migrate"]
+READINGS = ["spans", "gaps", "sheet", "sheet", "chart", "breaches", "breaches", "owed", "owed", "entries", "entries", "file", "drivers", "migrate"]
 READINGS += ["stretches", "stretches", "debts", "overview", "incidents", "form"]
 BAD_DRIVERS = ["017", "0", "1000000", "", "+17", "1e3", "\u0661\u0667"]
 BAD_NUMBERS = ["0", "01", "1000001", "x", "99999999999999999999"]
@@ -25,6 +25,7 @@ BAD: dict[str, list[list[str]]] = {
     "spans": [BAD_DRIVERS, BAD_MONTHS],
     "gaps": [BAD_DRIVERS, BAD_MONTHS],
     "sheet": [BAD_DRIVERS, BAD_MONTHS],
+    "chart": [BAD_DRIVERS, BAD_MONTHS],
     "file": [BAD_DRIVERS, BAD_NUMBERS],
     "drivers": [],
     "migrate": [],
@@ -89,7 +90,7 @@ class Lines(random_commands.Commands):
             return [word], b""
         if word in ("overview", "incidents"):
             return [word, self.month(driver)], b""
-        if word in ("spans", "gaps", "sheet"):
+        if word in ("spans", "gaps", "sheet", "chart"):
             return [word, str(number), self.month(driver)], b""
         if word == "file":
             count = len(driver.downloads) if driver else 0

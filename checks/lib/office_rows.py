@@ -54,7 +54,7 @@ Row = namedtuple("Row", "words given text status")
 
 
 def row(words: str, text: str | bytes, given: bytes, status: int) -> Row:
-    """A row whose arguments stand between blanks."""
+    """A row whose arguments are separated by blanks."""
     text = text if isinstance(text, bytes) else text.encode()
     return Row(words.split(" "), given, text, status)
 
@@ -181,7 +181,7 @@ ROWS = {
         refused("base 18 2024-03-12", "S4 unknown driver"),
         refused("sheet 18 2024-13", "Z2 no such date"),
         *[refused(f"{word} 18", "S4 unknown driver") for word in ["breaches", "owed", "entries"]],
-        *[refused(f"{word} 18 2024-03", "S4 unknown driver") for word in ["spans", "gaps", "sheet"]],
+        *[refused(f"{word} 18 2024-03", "S4 unknown driver") for word in ["spans", "gaps", "sheet", "chart"]],
         *[refused(f"{word} 18 1", "S4 unknown driver") for word in ["withdraw", "file"]],
         refused("enter 18", "S4 unknown driver", FREE_DAYS),
     ],

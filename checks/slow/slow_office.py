@@ -178,7 +178,7 @@ def sheet_text(number: int, name: str, held: Marks, report: Report, month: Month
 
 
 def horizon_text(horizon: int, cause: str) -> str:
-    """Where the examination ends."""
+    """The line of the minute at which the examination ends."""
     return f"EXAMINED TO {slow_reader.minute_text(horizon)} {cause.lower()}\n"
 
 
@@ -302,6 +302,93 @@ def incident_rows(driver: slow_archive.Driver, minutes: range) -> str:
     )
 
 
+# The chart of a month
+
+CHART_STYLE = (
+    "<style>text{fill:#222}.right{text-anchor:end}.middle{text-anchor:middle}.back{fill:#f4f4f4}.hour{stroke:#d0d0d0}"
+    ".rest{fill:#8fb8de}.available{fill:#c9b3e0}.work{fill:#f0a030}.drive{fill:#1f4e79}"
+    ".crew{fill-opacity:.45;stroke:#222;stroke-dasharray:4 3}.unseen{fill:#555;fill-opacity:.16}"
+    ".breach path,.mark{stroke:#c00000;stroke-width:3}.code{fill:#c00000;font-weight:bold;font-size:15px}</style>\n"
+)
+BAR_HEIGHTS = {"rest": 6, "available": 12, "work": 20, "drive": 28}
+LEGEND = [
+    ('rect class="rest"', 0, 26, 6, "rest"),
+    ('rect class="available"', 140, 20, 12, "available"),
+    ('rect class="work"', 330, 12, 20, "other work"),
+    ('rect class="drive"', 530, 4, 28, "driving"),
+    ('rect class="drive crew"', 700, 4, 28, "second driver"),
+    ('rect class="back"', 930, 4, 28, "not known"),
+    ('rect class="unseen"', 1120, 0, 36, "not examined"),
+]
+
+
+def xml_text(text: str) -> str:
+    """A text as XML."""
+    entities = {"&": "&amp;", "<": "&lt;", ">": "&gt;", "\ufffe": "\ufffd", "\uffff": "\ufffd"}
+    return "".join(entities.get(character, character) for character in text)
+
+
+def bar_text(first: int, start: int, past: int, mark: slow_reader.Mark) -> str:
+    """The bar of some minutes with one mark, on the day that begins with the minute `first`."""
+    activity, manning = mark
+    kind = f"{activity} crew" if manning == "crew" else activity
+    height = BAR_HEIGHTS[activity]
+    line = f"{slow_reader.minute_text(start)} {slow_reader.minute_text(past)} {activity} {manning}"
+    return (
+        f'<rect class="{kind}" x="{start - first}" y="{32 - height}" width="{past - start}" height="{height}">'
+        f"<title>{line}</title></rect>\n"
+    )
+
+
+def chart_day(held: Marks, stretches: Sequence[Stretch], date: datetime.date, y: int) -> str:
+    """The group of a day, `y` below the top."""
+    minutes = minutes_of(date)
+    first = minutes.start
+    bars = [bar_text(first, *run) for run in slow_reader.runs((minute, held[minute]) for minute in minutes if minute in held)]
+    unseen = [minute for minute in minutes if not any(stretch.monday <= minute < stretch.horizon for stretch in stretches)]
+    shades = [
+        f'<rect class="unseen" x="{start - first}" y="0" width="{past - start}" height="36"/>\n'
+        for start, past, _ in slow_reader.runs((minute, "") for minute in unseen)
+    ]
+    found = breaches_in(stretches, minutes)
+    marks = [
+        f'<g class="breach"><title>B{kind} {ARTICLES[kind]} at {slow_reader.minute_text(moment)} since {slow_reader.minute_text(since)} '
+        f'amount {amount}</title><path d="M{moment - first} 0v36"/></g>\n'
+        for kind, moment, since, amount in found
+    ]
+    drive = sum(held.get(minute) == ("drive", "single") for minute in minutes)
+    grid = "".join(f"M{hour * 60} 4v28" for hour in range(0, 25, 2))
+    return (
+        f'<g class="day" id="{date.isoformat()}" transform="translate(200 {y})">\n'
+        '<rect class="back" x="0" y="4" width="1440" height="28"/>\n'
+        f'<path class="hour" d="{grid}"/>\n'
+        f'<text class="right" x="-12" y="26">{date.isoformat()} {WEEKDAYS[date.weekday()]}</text>\n'
+        f'{"".join(bars)}{"".join(shades)}{"".join(marks)}'
+        f'<text class="right" x="1530" y="26">{drive // 60}:{drive % 60:02}</text>\n'
+        f'<text class="code" x="1545" y="26">{"".join(f" B{breach[0]}" for breach in found)}</text>\n</g>\n'
+    )
+
+
+def chart_text(driver: slow_archive.Driver, month: Month) -> str:
+    """The chart of a driver's month, as SVG."""
+    held = driver.held()
+    stretches = stretches_of(held, driver.base)
+    days = days_of(month)
+    title = f"{driver.number} {xml_text(driver.name.decode())}, {month[0]:04}-{month[1]:02}"
+    hours = "".join(f'<text x="{200 + 60 * hour}" y="88">{hour}</text>' for hour in range(0, 25, 2))
+    groups = "".join(chart_day(held, stretches, date, 100 + 36 * place) for place, date in enumerate(days))
+    legend = "".join(
+        f'<{shape} x="{x}" y="{y}" width="40" height="{height}"/><text x="{x + 50}" y="32">{text}</text>\n'
+        for shape, x, y, height, text in LEGEND
+    )
+    return (
+        f'<svg xmlns="http://www.w3.org/2000/svg" viewBox="0 0 1800 {160 + 36 * len(days)}" font-family="sans-serif" font-size="20" role="img">\n'
+        f'<title>{title}</title>\n{CHART_STYLE}<text x="20" y="40" font-size="28">{title}</text>\n<g class="middle">{hours}</g>\n{groups}'
+        f'<g transform="translate(200 {112 + 36 * len(days)})">\n{legend}'
+        '<path class="mark" d="M1340 0v36"/><text x="1350" y="32">breach</text>\n</g>\n</svg>\n'
+    )
+
+
 def form_text(held: Marks, base: int) -> str:
     """What isn't held from a minute to the end of what is held, in rows of 366 days at the most."""
     runs = slow_reader.runs((minute, "") for minute in range(base, end_of_held(held, base)) if minute not in held)
@@ -345,6 +432,7 @@ class Office:
             "spans": lambda: self.spans(*others),
             "gaps": lambda: self.gaps(*others),
             "sheet": lambda: self.sheet(*others),
+            "chart": lambda: self.chart(*others),
             "breaches": lambda: self.breaches(*others),
             "owed": lambda: self.owed(*others),
             "entries": lambda: self.entries(*others),
@@ -423,6 +511,11 @@ class Office:
         driver, when = self.month(number, month)
         held = driver.held()
         return sheet_text(driver.number, driver.name.decode(), held, report_of(held, driver.base), when)
+
+    def chart(self, number: str, month: str) -> str:
+        """The chart of a month, as SVG."""
+        driver, when = self.month(number, month)
+        return chart_text(driver, when)
 
     def breaches(self, number: str) -> str:
         """The breaches of a driver."""
