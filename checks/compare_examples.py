@@ -1,5 +1,5 @@
 #!/usr/bin/env python3
-"""Runs the program on the examples, and compares what it prints with the slow reader, and with the files that lie beside
+"""Runs the program on the examples, and compares what it prints with the slow reader, and with the files next to
 them; and runs the tour, and compares what it shows with what lies beside it.
 
 Arguments: the program and the folder of the examples. The last line is 'N passed, M failed'."""
@@ -13,7 +13,7 @@ from slow import slow_reader
 # By the ending of an example: what is asked of it, the slow reading, and the ending of what has to be printed.
 QUESTIONS = {".0504": ("dump", slow_reader.dump, ".spans"), ".ddd": ("holder", slow_reader.holder, ".holder")}
 
-# What is printed of it is long, and doesn't lie beside it.
+# Examples whose output is long, and isn't kept next to them.
 ALONE = ["largest.0504"]
 
 

@@ -29,7 +29,7 @@ FREE_BYTES = range(72, 92)  # of a file of SQLite: no version of it reads them
 DEVICE_FAILED = (b"X2 device failed\n", 3, b"")
 OPENING = ["migrate", *COMMANDS]
 
-# Arguments that name no command, with the archive's path where it belongs.
+# Arguments that name no command; PATH becomes the archive's path.
 NO_COMMANDS = [
     [],
     [""],

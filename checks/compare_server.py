@@ -519,7 +519,7 @@ def of_variety():
 
 
 def leave(serving, request, is_broken):
-    """Sends bytes over a connection and leaves it without a look at the reply: at once where it is to be broken."""
+    """Sends bytes over a connection and leaves it without a look at the reply: at once if it is to be broken."""
     with contextlib.suppress(OSError), serving.connection() as connection:
         sent(connection, [request])
         if is_broken:

@@ -207,13 +207,13 @@ class KilledDesk(Desk):
 
 
 def is_whole(told, wanted):
-    """Whether a command has printed all that is expected: by its status, or by its text alone where it was ended after that."""
+    """Whether a command has printed all that is expected: by its status, or by its text alone if it was ended after that."""
     text, status = told
     return status != KILLED or text != b"" and text == wanted[0]
 
 
 def right_of(told, wanted):
-    """What is expected of a command: where it was ended, the beginning of its text."""
+    """What is expected of a command: if it was ended, the beginning of its text."""
     text, status = told
     return told if status == KILLED and wanted[0].startswith(text) else wanted
 
@@ -254,7 +254,7 @@ def long_batch(chance, number):
 
 
 def enlarged(chance, words, given):
-    """The same, where it is an import now and then with blocks after the file that aren't read."""
+    """The same; an import has, now and then, blocks after the file that aren't read."""
     if words[0] in ("import", "own") and len(given) < slow_office.INPUT_LIMIT and chance.random() < 0.3:
         return words, random_requests.padded_file(given, chance.randrange(len(given), slow_office.INPUT_LIMIT + 1))
     return words, given

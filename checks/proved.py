@@ -1,7 +1,7 @@
 #!/usr/bin/env python3
 """Makes docs/PROVED.md from the doc comments of the public calls, and compares it with the one that is there.
 
-Each call stands with the first sentence of its doc comment, or all of it where it is one of WHOLE, and with the definitions that its
+Each call has the first sentence of its doc comment, or all of it if it is one of WHOLE, and the definitions that its
 contract cites. lib/contracts.py finds the calls and what they cite. With the argument `--write` the page is written instead. The last
 line is 'N passed, M failed'."""
 import os
@@ -29,7 +29,7 @@ OPENING = (
     "- A refusal leaves an archive's state and each of its rows as they were. A reader keeps what wasn't read, a"
     " writer has a beginning of the bytes, and of a text that was lent nothing is said after an error.",
     "The scan of `tacho_rules`, its passes, `tacho_plain`, `tacho_tables`, `tacho_reading` and `tacho_shelf` have"
-    " contracts too. They stand between these calls and the code, and are left out here. Where a reader doesn't report"
+    " contracts too. They lie between these calls and the code, and are left out here. If a reader doesn't report"
     " its bytes, what is said of its input holds for some input.",
 )
 
@@ -49,7 +49,7 @@ TITLES = {
     "tacho_cli": "commands",
 }
 
-# The calls whose whole doc comment stands here.
+# The calls whose whole doc comment is shown.
 WHOLE = {
     "tacho_desk::task::carry_out",
     "tacho_cli::office::perform",
@@ -65,12 +65,12 @@ WHOLE = {
 # A call that cites no definition and says less than this many words is an accessor, or makes a value: it is left out.
 FEW = 10
 
-# The line that a doc comment stands over.
+# The line after a doc comment.
 ITEM = re.compile(r"(?:pub(?:\(crate\))? )?(?:const )?(fn|struct|enum|trait) (\w+)")
 
 
 def comments_of(crate, module):
-    """The doc comments of a file, by the type or trait that they stand in, and the name of the function."""
+    """The doc comments of a file, by the type or trait that contains them, and the name of the function."""
     found, comment, owner = {}, [], None
     with open(os.path.join(TOP, "crates", crate, "src", module + ".rt"), encoding="utf-8") as file:
         lines = file.read().split("\n")
@@ -139,7 +139,7 @@ def comment_of(crate, module, called):
 
 
 def line_of(crate, module, called, texts):
-    """The lines of a call, or none where it has no comment."""
+    """The lines of a call, or none if it has no comment."""
     owner, name = called
     comment = comment_of(crate, module, called)
     if not comment:
@@ -175,7 +175,7 @@ def tidy(lines):
 
 
 def comparisons() -> counting.Comparisons:
-    """The page beside the one that is made."""
+    """The page next to the one that is made."""
     with open(DOCUMENT, encoding="utf-8") as file:
         yield "docs/PROVED.md", file.read().split("\n"), [*tidy(document()), ""]
     for place in sorted(WHOLE):

@@ -27,7 +27,7 @@ KNOWN = "min(run.past, end) - run.start"
 WITHIN = "week_start(week) <= minute < week_start(week + 1)"
 OTHER_NAME = {"min": "max", "max": "min", "any": "all", "all": "any"}
 
-# Changes that mean the same: the function, the text as it stands, the text as it is changed.
+# Changes that mean the same: the function, the text as it is, and as it is changed.
 SAME = {
     # The first and the last rest are longer than any limit, wherever one starts and the other ends.
     ("rest_runs", "Run(0, FAR)", "Run(1, FAR)"),
@@ -67,14 +67,14 @@ SAME = {
     # No rest is longer than itself.
     ("main_rest", "for other in candidates if run.start < other.start", "for other in candidates"),
     ("main_rest", "run.start < other.start", "run.start <= other.start"),
-    # Nothing is owed where it is no more than 0.
+    # Nothing is owed if it is no more than 0.
     ("owed", "return 0", "return -1"),
     ("owed", "max(0, 2700 - minutes_of(main))", "max(-1, 2700 - minutes_of(main))"),
 }
 
 
 def changes_of(node):
-    """The nodes that may stand in place of one."""
+    """The nodes that may replace one."""
     if isinstance(node, ast.Compare):
         for place, operator in enumerate(node.ops):
             if type(operator) in OTHER_COMPARISON:
@@ -122,7 +122,7 @@ def places_of(tree):
 
 
 def changed_readings(source):
-    """Each change of the source: the function, what stood there, what stands there now, and the module that it makes."""
+    """Each change of the source: the function, the old text, the new one, and the module that it makes."""
     for place, (name, told, node) in enumerate(places_of(ast.parse(source))):
         for number, new in enumerate(changes_of(node)):
             tree = ast.parse(source)

@@ -43,7 +43,7 @@ BY_HAND = ("tacho_plain",)
 # The first line of a function.
 FUNCTION = re.compile(r"\s*(?:pub(?:\([a-z]+\))? )?(?:const )?fn (\w+)")
 
-# What the prover says of a function that it didn't prove. Where it is only that a callee isn't proved, it says no more.
+# What the prover says of a function that it didn't prove. If the only reason is a callee that isn't proved, it says no more.
 UNPROVED = re.compile(r"fn (\w+)::(\S+?): (not proved|no proof|could not tell)(.*)")
 ONLY_CALLS = re.compile(r": it calls ")
 
@@ -81,13 +81,13 @@ class Slip:
         return self.refused.startswith("error[")
 
     def place_in(self, text, old):
-        """The place of a text that stands once."""
+        """The place of a text that occurs once."""
         if text.count(old) != 1:
             raise build.Stop(f"{self.name}: its text stands {text.count(old)} times, and not once: {old}")
         return text.index(old)
 
     def stands_within(self, texts):
-        """Whether all that it changes stands within the function that has to refuse it."""
+        """True if all that it changes is within the function that has to refuse it."""
         for path, old, _ in self.pairs:
             place = self.place_in(texts[path], old)
             lines = texts[path][:texts[path].index("\n", place)].split("\n")
@@ -97,7 +97,7 @@ class Slip:
 
 
 def enclosing(lines):
-    """The name of the function that the last of these lines stands in, by the layout of `rt fmt`."""
+    """The name of the function that contains the last of these lines, by the layout of `rt fmt`."""
     if match := FUNCTION.match(lines[-1]):
         return match[1]
     indent = len(lines[-1]) - len(lines[-1].lstrip())
@@ -126,7 +126,7 @@ class Crate:
             self.put(slip)
 
     def put(self, slip):
-        """Puts a slip into the first group whose slips stand in other functions, or into one of its own."""
+        """Puts a slip into the first group whose slips are in other functions, or into one of its own."""
         if not slip.stands_within(self.texts):
             self.groups.append({None: slip})
             return
@@ -184,13 +184,13 @@ def answers_of(kit, crate, below, group, kept):
 
 
 def sum_of(whole, crate, group):
-    """A sum of all that a group's answers stand on."""
+    """A checksum of all that a group's answers depend on."""
     slips = sorted((slip.name, slip.refused, slip.pairs) for slip in group.values())
     return hashlib.sha256(repr((whole, crate.name, slips)).encode()).hexdigest()
 
 
 def keep(name):
-    """Notes that a group has passed. Where nothing can be written, the next run tries it again."""
+    """Notes that a group has passed. If nothing can be written, the next run tries it again."""
     with contextlib.suppress(OSError):
         os.makedirs(KEPT, exist_ok=True)
         with open(os.path.join(KEPT, name), "w", encoding="utf-8"):

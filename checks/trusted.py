@@ -1,5 +1,5 @@
 #!/usr/bin/env python3
-"""Finds the definitions that a reader has to trust: those that public contracts cite, and what these stand on.
+"""Finds the definitions that a reader has to trust: those that public contracts cite, and what these depend on.
 
 It compares the first lines of the crates' specs/*.antt and docs/TRUSTED.md with what it found, and ends in 'N passed,
 M failed'. With the argument `--write` it writes docs/TRUSTED.md instead. With `--why FILE NAME`, as in `--why
@@ -81,7 +81,7 @@ AUDITOR = Order(
         LAWYER,
         ("texts that come in and go out",
          "tacho_time: Text Reading Calendar; tacho_sheet: Rows Words Entries Driver Number Text Reports Done Lines"
-         " Stretches Months Form"),
+         " Stretches Months Form Chart"),
         ("the program's arguments, and what it does without an archive and at one",
          "tacho_cli: Words Office Command Dump Card Holder Fault"),
         ("the rest: streams, out of memory, and terms of spans and lines",
@@ -96,7 +96,7 @@ ORDERS = LAWYER, DATABASE, AUDITOR
 
 
 def shown(place):
-    """A public item, or a definition with the crate and the file in which it stands."""
+    """A public item, or a definition with the crate and the file that contain it."""
     return place if isinstance(place, str) else ".".join(place)
 
 
@@ -221,7 +221,7 @@ def totals(rows):
     return (
         f"Of {sum(len(names) for _, names in rows.values())} definitions {trusted} are trusted. Of {len(files)} files"
         f" {files.count('Trusted: ')} are trusted wholly, {files.count('Trusted in part: ')} in part, and"
-        f" {files.count('Private to : ')} are private. Each file stands with the number of its definitions."
+        f" {files.count('Private to : ')} are private. The number after a file is that of its definitions."
     )
 
 
@@ -253,10 +253,10 @@ def document(entries: list[Entry], found: Found, rows: Rows) -> Iterator[str]:
     yield from ["## The files", "", *wrapped(totals(rows))]
     for crate, group in itertools.groupby(rows.items(), lambda row: row[0][0]):
         yield from crate_lines(crate, list(group))
-    yield from ["", "## The kit", "", "Definitions of its libraries that are cited on the way, by library:", ""]
     kit = collections.Counter(node.library for node in found if isinstance(node, Kit))
-    by_count = sorted(kit.items(), key=lambda row: (-row[1], row[0]))
-    yield from wrapped(", ".join(f"`{name}` {count}" for name, count in by_count) + ".")
+    names = ", ".join(f"`{name}`" for name, _ in sorted(kit.items(), key=lambda row: (-row[1], row[0])))
+    yield from ["", "## The kit", ""]
+    yield from wrapped(f"These definitions cite {kit.total()} of its libraries, most of them first: {names}.")
 
 
 # ---- the check

@@ -52,7 +52,7 @@ def pieces_of(request):
 
 
 def within(seconds, limits):
-    """Whether a time lies between two others, or the time where it doesn't."""
+    """True if a time lies between two others, else the time."""
     least, most = limits
     return least <= seconds <= most or round(seconds, 2)
 

@@ -298,7 +298,7 @@ def paying_week(writer: Writer, week: int, owed: list[Owed]) -> None:
 
 
 def ended_weekly_rests(writer: Writer) -> list[int]:
-    """Where weekly rests have ended: the first of all, which has no start, and those of 24 hours."""
+    """The ends of weekly rests: of the first of all, which has no start, and those of 24 hours."""
     firsts = [start for start, _, activity in writer.pieces if activity != "rest"][:1]
     return firsts + [past for start, past, activity in writer.pieces if activity == "rest" and past - start >= 1440]
 

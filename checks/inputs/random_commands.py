@@ -33,7 +33,7 @@ BAD_TEXTS = [b"a, b", b"a,", b'"', b'Eva "E"', b"a\n", b"a\r\nb", b"\ta", b"a\0b
 BAD_AUTHORS = [b"", 65 * b"a", 63 * b"a" + "\u00f6".encode(), 63 * b"a" + b"\xc3", 33 * "\u00f6".encode(), 200 * b"n", *BAD_TEXTS]
 BAD_NOTES = [201 * b"n", 199 * b"n" + "\u00f6".encode(), 199 * b"n" + b"\xc3", 101 * "\u00f6".encode(), *BAD_TEXTS]
 
-# What stands in the place of a time or of an activity.
+# What replaces a time or an activity.
 BAD_TIMES = ["", "2024-03-04", "2024-03-04T00:00", "2024-3-4 00:00", " 2024-03-04 00:00", "2024-03-04 00:00:00", "04.03.2024 00:00"]
 BAD_TIMES += ["2023-02-29 00:00", "2024-13-01 00:00", "2024-03-04 24:00", "2024-03-04 00:60", "2000-01-02 23:59", "2100-01-01 00:00"]
 BAD_WORDS = ["crew", "ferry", "out", "derogation", "", "Rest", "rest ", "lunch", "Crew", "driving", "\u00f6"]
@@ -52,7 +52,7 @@ def date_text(day: int) -> str:
 
 
 def field(text: bytes) -> bytes:
-    """A field of CSV, in quotes where it needs them."""
+    """A field of CSV, in quotes if it needs them."""
     needs_quotes = any(byte in text for byte in b',"\r\n')
     return b'"' + text.replace(b'"', b'""') + b'"' if needs_quotes else text
 
@@ -87,7 +87,7 @@ def rows_of(chance: random.Random, spans: Iterable[Span]) -> list[list[bytes]]:
 
 
 def spoil_hours(chance: random.Random, rows: list[list[bytes]]) -> None:
-    """Puts a fault into a row of hours, mostly into its author or note where it has them. A row that lacks fields stays as it is."""
+    """Puts a fault into a row of hours, mostly into its author or note if it has them. A row that lacks fields stays as it is."""
     row = chance.choice(rows)
     if len(row) < 3:
         return

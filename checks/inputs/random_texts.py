@@ -25,7 +25,7 @@ BAD_COLUMNS = [
     ["", 65 * "n", 63 * "n" + "ö", "Berg, Anna", 'Anna "B"', "Anna\nBerg", "Anna\tBerg", "Anna\x7f", b"Anna \xff", b"\xc3"],
 ]
 
-# What stands before random bytes: nothing, a head, a row with its end of line or without, one up to its author or note, a driver
+# What comes before random bytes: nothing, a head, a row with its end of line or without, one up to its author or note, a driver
 # up to the name.
 BEGINNINGS = {
     "entries": ["", HEAD[:-1], HEAD, HEAD + REST[:-1], HEAD + REST, SIGNED[:-1], SIGNED + REST[:-1] + ",", SIGNED + REST[:-1] + ",b,"],

@@ -14,8 +14,8 @@ from collections.abc import Callable, Iterable, Iterator, Sequence
 from lib.files import TOP
 
 # The crates by whose public contracts the product is known, each with those of its modules that count, or None for all.
-# The crates that stand between aren't here: what theirs say is used in proofs of these, and the prover has checked it.
-# Of tacho_rules the scan stands between too: what a report is, IsReport says, however it is made. So it is of the pass of
+# The crates in between aren't here: what theirs say is used in proofs of these, and the prover has checked it.
+# Of tacho_rules the scan is in between too: what a report is, IsReport says, however it is made. So it is of the pass of
 # tacho_stretches.
 ENTRIES: dict[str, tuple[str, ...] | None] = {
     "tacho_time": None,
@@ -32,10 +32,10 @@ ENTRIES: dict[str, tuple[str, ...] | None] = {
     "tacho_cli": None,
 }
 
-# Laws of these that are about what stands between: what each pass of a scan finds.
+# Laws of these that are about what is in between: what each pass of a scan finds.
 BETWEEN = {f"tacho_rules::laws::{name}_as_defined" for name in ("breaks", "days", "week_sums", "week_rests")}
 
-# What these show of other crates by `pub use`, and what stands between all the same: the scan's passes, and what reads rows for it.
+# What these show of other crates by `pub use`, and what is in between all the same: the scan's passes, and what reads rows for it.
 PASSED_ON = {"Breaks", "Days", "Found", "Pass", "Plain", "WeekRests", "WeekSums", "feed_rows"}
 
 # A definition of the crates, a type or trait of their code, or a definition of a library of the kit.
@@ -144,7 +144,7 @@ def named(path: str, names: str) -> Iterator[tuple[str, Node | None]]:
 
 
 def meaning(word: str, scope: Scope) -> Node | None:
-    """What a word cites in a scope, or None. What follows a dot is a field, unless a prefix stands before it."""
+    """What a word cites in a scope, or None. What follows a dot is a field, unless a prefix comes before it."""
     head, _, rest = word.partition(".")
     if head in scope.prefixes and rest:
         return target(scope.prefixes[head], rest.split(".")[0])
@@ -166,7 +166,7 @@ def signature(line: str) -> str | None:
 
 
 def definitions_of(place: str, text: str) -> dict[str, str]:
-    """The definitions of an .antt file, each with its text, and the head of the modules that it stands in."""
+    """The definitions of an .antt file, each with its text, and the head of the modules that contain it."""
     definitions: dict[str, list[str]] = {}
     heads: list[list[str]] = []
     last: list[str] = []
@@ -299,7 +299,7 @@ def shown_modules(crate: str) -> list[str]:
 
 @functools.cache
 def source(crate: str, module: str) -> tuple[list[str], Scope] | None:
-    """The items of a file of code, and the scope of its ghost words; None where there is no such file."""
+    """The items of a file of code, and the scope of its ghost words; None if there is no such file."""
     path = os.path.join(TOP, "crates", crate, "src", module + ".rt")
     if not os.path.exists(path):
         return None
@@ -354,7 +354,7 @@ def is_shown(item: str) -> bool:
 
 
 def head_of(block: str) -> tuple[str, str]:
-    """The trait and the type of an impl: the trait is empty where it has none."""
+    """The trait and the type of an impl: the trait is empty if it has none."""
     head = block.split("{")[0]
     while "<" in head:
         head = re.sub(r"<[^<>]*>", "", head)

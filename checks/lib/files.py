@@ -1,4 +1,4 @@
-"""The folders of the repository, and files: what they hold, and what lies beside them."""
+"""The folders of the repository, and files: what they hold, and what is next to them."""
 import contextlib
 import os
 import shutil
@@ -28,7 +28,7 @@ def write(path: str, given: bytes) -> None:
 
 
 def lying_at(path: str) -> tuple[list[str], bytes | None]:
-    """What lies in a path's folder, but for a log beside a file, and the file's bytes."""
+    """The names in a path's folder, without the log of a file, and the file's bytes."""
     names = os.listdir(os.path.dirname(path))
     logs = [os.path.basename(path) + "-wal"] if os.path.isfile(path) else []
     return sorted({*names} - {*logs}), content(path)

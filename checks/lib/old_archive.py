@@ -162,7 +162,7 @@ def literal(value: object) -> str:
 
 
 def remark(name: str, row: Sequence[Any]) -> str:
-    """What a row's start, past and mark are, where it has them."""
+    """A row's start, past and mark, if it has them."""
     if name not in SPAN_PLACES:
         return ""
     start, past, mark = row[SPAN_PLACES[name] :][:3]

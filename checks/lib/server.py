@@ -79,11 +79,11 @@ COUNTED = "content-length: "
 
 # The program
 
-# What the program prints, and its status, where it doesn't begin to serve.
+# What the program prints, and its status, if it doesn't begin to serve.
 BAD_KEY = (b"E9 bad value for key\n", 1)
 NO_PORT = (b"X2 device failed\n", 3)
 
-# The same where it has served all connections, and what it prints on standard error.
+# The same if it has served all connections, and what it prints on standard error.
 ENDED = (b"", 0, b"")
 
 
@@ -117,7 +117,7 @@ def sent(connection: socket.socket, pieces: Iterable[bytes]) -> None:
 
 
 def received(connection: socket.socket) -> bytes:
-    """All bytes of a reply, up to the end of the connection. Where the program hasn't read all of the request, it ends as broken."""
+    """All bytes of a reply, up to the end of the connection. If the program hasn't read all of the request, it ends as broken."""
     found = b""
     with contextlib.suppress(ConnectionResetError):
         while piece := connection.recv(65_536):

@@ -30,7 +30,7 @@ class Entry:
         self.is_withdrawn = False
 
     def marks(self) -> Marks:
-        """What it gives: the mark of each of its minutes, or nothing where it was withdrawn."""
+        """What it gives: the mark of each of its minutes, or nothing if it was withdrawn."""
         return {} if self.is_withdrawn else dict.fromkeys(range(self.start, self.past), self.mark)
 
 

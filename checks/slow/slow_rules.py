@@ -150,7 +150,7 @@ def duty_days(runs: Iterable[Run]) -> list[Duty]:
 
 
 def portion(day: Duty) -> int:
-    """How much of the daily rest lies within 24 hours of the day's start, negative where it starts later (Article 8(2))."""
+    """How much of the daily rest lies within 24 hours of the day's start, negative if it starts later (Article 8(2))."""
     return min(day.rest.past, day.start + 1440) - day.past
 
 

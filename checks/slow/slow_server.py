@@ -52,7 +52,7 @@ FAULTS = {
     "S14": 409,
 }
 
-# By a path and a method: the command of the slow office. Its arguments stand in braces.
+# By a path and a method: the command of the slow office. Its arguments are in braces.
 OFFICE_ROUTES = {
     "/drivers": {"POST": "register"},
     "/cards/{part}": {"POST": "import"},
@@ -236,7 +236,7 @@ class Refused(Exception):
 
 
 def words_in(path: str, form: str) -> list[str] | None:
-    """What a path has where its form has braces, or None where it isn't of that form. None of it is empty."""
+    """The parts of a path for which its form has braces, or None if it isn't of that form. No part is empty."""
     parts, names = path.split("/"), form.split("/")
     is_word = [name.startswith("{") for name in names]
     if len(parts) != len(names) or not all(part if word else part == name for part, name, word in zip(parts, names, is_word)):
@@ -254,7 +254,7 @@ def form_of(path: str) -> tuple[str, list[str]]:
 
 
 def body_length(head: Head, command: str) -> int:
-    """How many bytes of a body are read: 400, 411, 413. Where a command has no input, there is none, and no length has to be given."""
+    """How many bytes of a body are read: 400, 411, 413. If a command has no input, there is none, and no length has to be given."""
     if head.method == b"GET":
         return 0
     if head.values(b"transfer-encoding"):
@@ -347,7 +347,7 @@ class Server:
         return reply_to_fault(told) if status else reply_to_done(words[0], told)
 
     def replies(self, given: bytes) -> list[bytes]:
-        """The replies of which one is right. Where there are several, none of them changes anything."""
+        """The replies of which one is right. If there are several, none of them changes anything."""
         try:
             head = head_of(given)
         except NotOne as fault:
