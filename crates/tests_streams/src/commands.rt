@@ -635,6 +635,7 @@ Commands:
   spans      Prints what a driver holds in a month as CSV: MONTH is YYYY-MM
   gaps       Prints the minutes of a month that a driver doesn't hold
   sheet      Prints the sheet of a driver's month
+  chart      Draws a driver's month as SVG: a row for each day, with the breaches: tacho chart ARCHIVE DRIVER MONTH > month.svg
   breaches   Prints the breaches of the rules on driving and rest hours
   owed       Prints the weekly rests that are owed
   entries    Prints the hours that were entered by hand
