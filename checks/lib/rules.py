@@ -332,7 +332,7 @@ COUNTED_ONCE = [
         [piece for piece in THREE_SUNDAYS if piece[0] != at(28, "06:00")], NONE, NONE),
     # As before, and in the week from 1 April there is none. From the 25th on the choice is made anew, but the 25th and
     # 1 April have the third rest alone, wherever that counts.
-    Row("a failure directly behind another", at(39, "00:00"),
+    Row("a failure directly after another", at(39, "00:00"),
         THREE_SUNDAYS + work(range(32, 39), "06:00-07:00") + work([38], "23:00-24:00"),
         [
             (9, at(32, "00:00"), at(18, "00:00"), 0),
@@ -350,10 +350,10 @@ COUNTED_ONCE = [
         [(9, at(32, "00:00"), at(18, "00:00"), 0)], NONE),
     # The 18th is all at rest, from the 16th to the 25th: that is one rest. The 4th and the 11th need it in the 11th,
     # beside the one in the 4th; the 25th and 1 April need it in the 25th, beside the one from the 31st.
-    Row("a rest of more than a week counts before it or behind it", at(39, "00:00"), LONG_REST,
+    Row("a rest of more than a week counts before it or after it", at(39, "00:00"), LONG_REST,
         [(9, at(39, "00:00"), at(25, "00:00"), 0)], NONE),
     # One more, of 47 hours, in the 11th: it and the one in the 4th are enough, and the long one counts in the 25th.
-    Row("a rest of more than a week counts behind it", at(39, "00:00"),
+    Row("a rest of more than a week counts after it", at(39, "00:00"),
         [piece for piece in LONG_REST if piece[0] != at(13, "06:00")], NONE, NONE),
 ]
 

@@ -725,7 +725,7 @@ For more information, try '--help'.
 
 const NO_COMMAND: &str = "\
 error: 'tacho' requires a subcommand but one was not provided
-  [subcommands: dump, holder, card, init, migrate, register, import, enter, withdraw, base, spans, gaps, sheet, breaches, owed, entries, file, drivers, stretches, debts, overview, incidents, form, serve, help]
+  [subcommands: dump, holder, card, init, migrate, register, import, enter, withdraw, base, spans, gaps, sheet, chart, breaches, owed, entries, file, drivers, stretches, debts, overview, incidents, form, serve, help]
 
 Usage: tacho <COMMAND>
 
