@@ -305,10 +305,10 @@ def incident_rows(driver: slow_archive.Driver, minutes: range) -> str:
 # The chart of a month
 
 CHART_STYLE = (
-    "<style>text{fill:#222}.right{text-anchor:end}.middle{text-anchor:middle}.back{fill:#f4f4f4}.hour{stroke:#d0d0d0}"
+    "<style>text{fill:#222}.right{text-anchor:end}.middle{text-anchor:middle}.back{fill:#fafafa;stroke:#aaa}.hour{stroke:#d0d0d0}"
     ".rest{fill:#8fb8de}.available{fill:#c9b3e0}.work{fill:#f0a030}.drive{fill:#1f4e79}"
     ".crew{fill-opacity:.45;stroke:#222;stroke-dasharray:4 3}.unseen{fill:#555;fill-opacity:.16}"
-    ".breach path,.mark{stroke:#c00000;stroke-width:3}.code{fill:#c00000;font-weight:bold;font-size:15px}</style>\n"
+    ".breach path,.mark{fill:#c00000;stroke:#fff;stroke-width:2}.code{fill:#c00000;font-weight:bold;font-size:15px}</style>\n"
 )
 BAR_HEIGHTS = {"rest": 6, "available": 12, "work": 20, "drive": 28}
 LEGEND = [
@@ -353,7 +353,7 @@ def chart_day(held: Marks, stretches: Sequence[Stretch], date: datetime.date, y:
     found = breaches_in(stretches, minutes)
     marks = [
         f'<g class="breach"><title>B{kind} {ARTICLES[kind]} at {slow_reader.minute_text(moment)} since {slow_reader.minute_text(since)} '
-        f'amount {amount}</title><path d="M{moment - first} 0v36"/></g>\n'
+        f'amount {amount}</title><path d="M{moment - first} 0h6v36h-6z"/></g>\n'
         for kind, moment, since, amount in found
     ]
     drive = sum(held.get(minute) == ("drive", "single") for minute in minutes)
@@ -382,10 +382,12 @@ def chart_text(driver: slow_archive.Driver, month: Month) -> str:
         for shape, x, y, height, text in LEGEND
     )
     return (
-        f'<svg xmlns="http://www.w3.org/2000/svg" viewBox="0 0 1800 {160 + 36 * len(days)}" font-family="sans-serif" font-size="20" role="img">\n'
-        f'<title>{title}</title>\n{CHART_STYLE}<text x="20" y="40" font-size="28">{title}</text>\n<g class="middle">{hours}</g>\n{groups}'
+        f'<svg xmlns="http://www.w3.org/2000/svg" viewBox="0 0 1920 {160 + 36 * len(days)}" font-family="sans-serif" font-size="20" role="img">\n'
+        f'<title>{title}</title>\n{CHART_STYLE}<text x="20" y="40" font-size="28">{title}</text>\n'
+        '<g class="right"><text x="176" y="88">UTC</text><text x="1730" y="88">driven</text></g>\n'
+        f'<g class="middle">{hours}</g>\n{groups}'
         f'<g transform="translate(200 {112 + 36 * len(days)})">\n{legend}'
-        '<path class="mark" d="M1340 0v36"/><text x="1350" y="32">breach</text>\n</g>\n</svg>\n'
+        '<path class="mark" d="M1340 0h6v36h-6z"/><text x="1350" y="32">breach</text>\n</g>\n</svg>\n'
     )
 
 

@@ -52,6 +52,9 @@ pieces2 a b t t1 t2 e1 e2 = e2 ∙ ap (λ (x : List ℕ). x ++ b) e1 ∙ append_
 pub pieces3 : (a b c t t1 t2 t3 : List ℕ) → t1 ≡ t ++ a → t2 ≡ t1 ++ b → t3 ≡ t2 ++ c → t3 ≡ t ++ (a ++ (b ++ c))
 pieces3 a b c t t1 t2 t3 e1 e2 e3 = pieces2 a (b ++ c) t t1 t3 e1 (pieces2 b c t1 t2 t3 e2 e3)
 
+pub pieces4 : (a b c d t t1 t2 t3 t4 : List ℕ) → t1 ≡ t ++ a → t2 ≡ t1 ++ b → t3 ≡ t2 ++ c → t4 ≡ t3 ++ d → t4 ≡ t ++ (a ++ (b ++ (c ++ d)))
+pieces4 a b c d t t1 t2 t3 t4 e1 e2 e3 e4 = pieces2 a (b ++ (c ++ d)) t t1 t4 e1 (pieces3 b c d t1 t2 t3 t4 e2 e3 e4)
+
 pub pieces5 : (a b c d e t t1 t2 t3 t4 t5 : List ℕ) → t1 ≡ t ++ a → t2 ≡ t1 ++ b → t3 ≡ t2 ++ c → t4 ≡ t3 ++ d → t5 ≡ t4 ++ e
     → t5 ≡ t ++ (a ++ (b ++ (c ++ (d ++ e))))
 pieces5 a b c d e t t1 t2 t3 t4 t5 e1 e2 e3 e4 e5 = pieces3 a b (c ++ (d ++ e)) t t1 t2 t5 e1 e2 (pieces3 c d e t2 t3 t4 t5 e3 e4 e5)

@@ -76,7 +76,7 @@ breach_title b =
     ++ (minute_text b.since ++ (codes " amount " ++ (decimal b.amount ++ codes "</title>")))))))
 
 abbrev pub breach_path : ℕ → List ℕ
-breach_path x = codes "<path d=\"M" ++ (decimal x ++ codes " 0v36\"/></g>\n")
+breach_path x = codes "<path d=\"M" ++ (decimal x ++ codes " 0h6v36h-6z\"/></g>\n")
 
 abbrev pub breach_mark : ℕ → Breach → List ℕ
 breach_mark first b = breach_title b ++ breach_path (b.moment - first)
@@ -168,12 +168,16 @@ pub record HasDayGroup (line : List Span) (stretches : List Judged) (day y k : �
 
 abbrev pub chart_style : List ℕ
 chart_style =
-    codes "<style>text{fill:#222}.right{text-anchor:end}.middle{text-anchor:middle}.back{fill:#f4f4f4}.hour{stroke:#d0d0d0}"
+    codes "<style>text{fill:#222}.right{text-anchor:end}.middle{text-anchor:middle}.back{fill:#fafafa;stroke:#aaa}.hour{stroke:#d0d0d0}"
     ++ (codes ".rest{fill:#8fb8de}.available{fill:#c9b3e0}.work{fill:#f0a030}.drive{fill:#1f4e79}"
     ++ (codes ".crew{fill-opacity:.45;stroke:#222;stroke-dasharray:4 3}.unseen{fill:#555;fill-opacity:.16}"
-    ++ codes ".breach path,.mark{stroke:#c00000;stroke-width:3}.code{fill:#c00000;font-weight:bold;font-size:15px}</style>\n"))
+    ++ codes ".breach path,.mark{fill:#c00000;stroke:#fff;stroke-width:2}.code{fill:#c00000;font-weight:bold;font-size:15px}</style>\n"))
 
--- the hours above the days
+-- above the days: what the hours are in, and what the amounts at the right are
+abbrev pub chart_columns : List ℕ
+chart_columns = codes "<g class=\"right\"><text x=\"176\" y=\"88\">UTC</text><text x=\"1730\" y=\"88\">driven</text></g>\n"
+
+-- the hours
 abbrev pub chart_morning : List ℕ
 chart_morning =
     codes "<g class=\"middle\"><text x=\"200\" y=\"88\">0</text><text x=\"320\" y=\"88\">2</text><text x=\"440\" y=\"88\">4</text>"
@@ -189,7 +193,7 @@ chart_afternoon =
 -- the picture of a month of n days
 abbrev pub chart_open : ℕ → List ℕ
 chart_open days =
-    codes "<svg xmlns=\"http://www.w3.org/2000/svg\" viewBox=\"0 0 1800 " ++ (decimal (160 + 36 * days)
+    codes "<svg xmlns=\"http://www.w3.org/2000/svg\" viewBox=\"0 0 1920 " ++ (decimal (160 + 36 * days)
     ++ codes "\" font-family=\"sans-serif\" font-size=\"20\" role=\"img\">\n")
 
 -- the title, for programs and for people
@@ -203,7 +207,7 @@ abbrev pub chart_front : List ℕ → ℕ → List ℕ
 chart_front title days = chart_open days ++ (title_element title ++ chart_style)
 
 abbrev pub chart_hours : List ℕ → List ℕ
-chart_hours title = chart_heading title ++ (chart_morning ++ chart_afternoon)
+chart_hours title = chart_heading title ++ (chart_columns ++ (chart_morning ++ chart_afternoon))
 
 -- before the days
 abbrev pub chart_head : ℕ → List ℕ → ℕ → ℕ → List ℕ
@@ -225,7 +229,7 @@ legend_others =
     codes "<rect class=\"drive crew\" x=\"700\" y=\"4\" width=\"40\" height=\"28\"/><text x=\"750\" y=\"32\">second driver</text>\n"
     ++ (codes "<rect class=\"back\" x=\"930\" y=\"4\" width=\"40\" height=\"28\"/><text x=\"980\" y=\"32\">not known</text>\n"
     ++ (codes "<rect class=\"unseen\" x=\"1120\" y=\"0\" width=\"40\" height=\"36\"/><text x=\"1170\" y=\"32\">not examined</text>\n"
-    ++ codes "<path class=\"mark\" d=\"M1340 0v36\"/><text x=\"1350\" y=\"32\">breach</text>\n</g>\n</svg>\n"))
+    ++ codes "<path class=\"mark\" d=\"M1340 0h6v36h-6z\"/><text x=\"1350\" y=\"32\">breach</text>\n</g>\n</svg>\n"))
 
 abbrev pub chart_legend : ℕ → List ℕ
 chart_legend days = legend_open days ++ (legend_bars ++ legend_others)

@@ -7,7 +7,7 @@ ghost use Rattle.tacho_stretches.specs.Stretches.{judged_of, Judged};
 ghost use Rattle.tacho_line.specs.Line.{AreGaps, HoldsWithin};
 ghost use Rattle.tacho_sheet.specs.Reports.{breaches_within};
 ghost use Rattle.tacho_sheet.specs.Months.{month_breaches};
-ghost use Rattle.tacho_sheet.specs.Chart.{bar, bar_height, bar_rect, bar_title, bar_top, breach_code as code_after_space, breach_mark, breach_path, breach_title, chart_afternoon, chart_front, chart_hours, chart_legend, chart_morning, chart_style, chart_title, crew_class, day_end, day_grid, day_group, day_head, day_label, day_open, legend_bars, legend_others, shade, shade_rect, xml_char, xml_text, AreDayGroups, IsDayGroup, IsMonthChart};
+ghost use Rattle.tacho_sheet.specs.Chart.{bar, bar_height, bar_rect, bar_title, bar_top, breach_code as code_after_space, breach_mark, breach_path, breach_title, chart_afternoon, chart_columns, chart_front, chart_hours, chart_legend, chart_morning, chart_style, chart_title, crew_class, day_end, day_grid, day_group, day_head, day_label, day_open, legend_bars, legend_others, shade, shade_rect, xml_char, xml_text, AreDayGroups, IsDayGroup, IsMonthChart};
 ghost use Rattle.tacho_sheet.specs.Seen.{seen_span, seen_spans};
 
 use crate::amounts::amounts_of_day;
@@ -153,12 +153,12 @@ fn push_front(text: &mut String, title: &str, days: u32) -> Result<(), AllocErro
 
 /// Appends the start of a picture of this height.
 fn push_open(text: &mut String, height: u32) -> Result<(), AllocError>
-    ensures { OnOk result (string_bytes text.new ≡ string_bytes text.old ++ (codes "<svg xmlns=\"http://www.w3.org/2000/svg\" viewBox=\"0 0 1800 "
+    ensures { OnOk result (string_bytes text.new ≡ string_bytes text.old ++ (codes "<svg xmlns=\"http://www.w3.org/2000/svg\" viewBox=\"0 0 1920 "
         ++ (decimal height ++ codes "\" font-family=\"sans-serif\" font-size=\"20\" role=\"img\">\n"))) }
 {
     write!(
         text,
-        "<svg xmlns=\"http://www.w3.org/2000/svg\" viewBox=\"0 0 1800 {height}\" font-family=\"sans-serif\" font-size=\"20\" role=\"img\">\n"
+        "<svg xmlns=\"http://www.w3.org/2000/svg\" viewBox=\"0 0 1920 {height}\" font-family=\"sans-serif\" font-size=\"20\" role=\"img\">\n"
     )
 }
 
@@ -167,7 +167,7 @@ fn push_style(text: &mut String) -> Result<(), AllocError>
     ensures { OnOk result (string_bytes text.new ≡ string_bytes text.old ++ chart_style) }
 {
     text.push_str(
-        "<style>text{fill:#222}.right{text-anchor:end}.middle{text-anchor:middle}.back{fill:#f4f4f4}.hour{stroke:#d0d0d0}",
+        "<style>text{fill:#222}.right{text-anchor:end}.middle{text-anchor:middle}.back{fill:#fafafa;stroke:#aaa}.hour{stroke:#d0d0d0}",
     )?;
     text.push_str(
         ".rest{fill:#8fb8de}.available{fill:#c9b3e0}.work{fill:#f0a030}.drive{fill:#1f4e79}",
@@ -176,7 +176,7 @@ fn push_style(text: &mut String) -> Result<(), AllocError>
         ".crew{fill-opacity:.45;stroke:#222;stroke-dasharray:4 3}.unseen{fill:#555;fill-opacity:.16}",
     )?;
     text.push_str(
-        ".breach path,.mark{stroke:#c00000;stroke-width:3}.code{fill:#c00000;font-weight:bold;font-size:15px}</style>\n",
+        ".breach path,.mark{fill:#c00000;stroke:#fff;stroke-width:2}.code{fill:#c00000;font-weight:bold;font-size:15px}</style>\n",
     )
 }
 
@@ -188,8 +188,18 @@ fn push_hours(text: &mut String, title: &str) -> Result<(), AllocError>
         text,
         "<text x=\"20\" y=\"40\" font-size=\"28\">{title}</text>\n"
     )?;
+    push_columns(text)?;
     push_morning(text)?;
     push_afternoon(text)
+}
+
+/// Appends what the hours are in, and what the amounts at the right are.
+fn push_columns(text: &mut String) -> Result<(), AllocError>
+    ensures { OnOk result (string_bytes text.new ≡ string_bytes text.old ++ chart_columns) }
+{
+    text.push_str(
+        "<g class=\"right\"><text x=\"176\" y=\"88\">UTC</text><text x=\"1730\" y=\"88\">driven</text></g>\n",
+    )
 }
 
 /// Appends the hours to noon.
@@ -511,7 +521,7 @@ fn push_breach_title(text: &mut String, breach: &Breach) -> Result<(), AllocErro
 fn push_path(text: &mut String, x: u32) -> Result<(), AllocError>
     ensures { OnOk result (string_bytes text.new ≡ string_bytes text.old ++ breach_path x) }
 {
-    write!(text, "<path d=\"M{x} 0v36\"/></g>\n")
+    write!(text, "<path d=\"M{x} 0h6v36h-6z\"/></g>\n")
 }
 
 /// Appends the day's driving without a second driver, and the codes of its breaches.
@@ -579,6 +589,6 @@ fn push_legend_others(text: &mut String) -> Result<(), AllocError>
         "<rect class=\"unseen\" x=\"1120\" y=\"0\" width=\"40\" height=\"36\"/><text x=\"1170\" y=\"32\">not examined</text>\n",
     )?;
     text.push_str(
-        "<path class=\"mark\" d=\"M1340 0v36\"/><text x=\"1350\" y=\"32\">breach</text>\n</g>\n</svg>\n",
+        "<path class=\"mark\" d=\"M1340 0h6v36h-6z\"/><text x=\"1350\" y=\"32\">breach</text>\n</g>\n</svg>\n",
     )
 }
