@@ -28,6 +28,7 @@ COLLECTING = [
     "readings::a_form_is_printed",
     "readings::an_overview_is_cut_at_the_ends_of_the_month",
     "readings::an_overview_is_printed",
+    "reports::a_chart_is_drawn",
     "reports::a_day_with_every_mark_is_printed",
     "reports::a_month_is_printed",
     "reports::gaps_of_a_month_are_printed",

@@ -4,7 +4,8 @@ use std::test::Fail;
 use tacho_law::{Breach, Debt, Kind};
 use tacho_line::{Cause, Horizon, Line, LineFault};
 use tacho_rules::Report;
-use tacho_sheet::{breach_text, gap_text, month_sheet, owed_text, span_csv};
+use tacho_sheet::{breach_text, gap_text, month_chart, month_sheet, owed_text, span_csv};
+use tacho_stretches::Stretch;
 use tacho_time::{Activity, Mark, Minute, Month, Span, Week, span_lines};
 
 // `checks/failing_sheet.py` runs each test with each of its allocations refused in turn. So a test returns an error by `?` if it runs out
@@ -268,6 +269,47 @@ fn a_day_with_every_mark_is_printed(rt: HostRuntime) -> Result<(), Fail> {
     assert!(rt;
         text.ends_with(
             "\nTOTAL            0:01   0:02   0:03   0:59   1:01 741:54\nEXAMINED TO 2024-03-04 17:00 unknown\n"
+        )
+    );
+    Ok(())
+}
+
+/// The beginning and the end of the chart, and the group of Monday the 4th, are those that `checks/slow/slow_office.py` draws for these spans.
+#[test]
+fn a_chart_is_drawn(rt: HostRuntime) -> Result<(), Fail> {
+    let alloc = rt.alloc();
+    let held = [
+        span(4, 0, 480, Activity::Rest, false),
+        span(4, 480, 510, Activity::Work, false),
+        span(4, 510, 1020, Activity::Drive, false),
+        span(4, 1020, 1090, Activity::Drive, true),
+        span(4, 1090, 1100, Activity::Available, true),
+    ];
+    let crew = Horizon {
+        minute: at(4, 1020),
+        cause: Cause::Crew,
+    };
+    let long = breach(Kind::B1, at(4, 780), at(4, 510), 240);
+    let stretches = [Stretch {
+        monday: at(4, 0),
+        report: report_of(alloc, crew, &[long])?,
+        unseen: Some(at(4, 1100)),
+    }];
+    let line = line_of(alloc, &held)?;
+    let text = month_chart(alloc, 17, "A <B> & C", &line, &stretches, march()?)?;
+    assert!(rt;
+        text.starts_with(
+            "<svg xmlns=\"http://www.w3.org/2000/svg\" viewBox=\"0 0 1920 1276\" font-family=\"sans-serif\" font-size=\"20\" role=\"img\">\n<title>17 A &lt;B&gt; &amp; C, 2024-03</title>\n<style>text{fill:#222}.right{text-anchor:end}.middle{text-anchor:middle}.back{fill:#fafafa;stroke:#aaa}.hour{stroke:#d0d0d0}.rest{fill:#8fb8de}.available{fill:#c9b3e0}.work{fill:#f0a030}.drive{fill:#1f4e79}.crew{fill-opacity:.45;stroke:#222;stroke-dasharray:4 3}.unseen{fill:#555;fill-opacity:.16}.breach path,.mark{fill:#c00000;stroke:#fff;stroke-width:2}.code{fill:#c00000;font-weight:bold;font-size:15px}</style>\n<text x=\"20\" y=\"40\" font-size=\"28\">17 A &lt;B&gt; &amp; C, 2024-03</text>\n<g class=\"right\"><text x=\"176\" y=\"88\">UTC</text><text x=\"1730\" y=\"88\">driven</text></g>\n<g class=\"middle\"><text x=\"200\" y=\"88\">0</text><text x=\"320\" y=\"88\">2</text><text x=\"440\" y=\"88\">4</text><text x=\"560\" y=\"88\">6</text><text x=\"680\" y=\"88\">8</text><text x=\"800\" y=\"88\">10</text><text x=\"920\" y=\"88\">12</text><text x=\"1040\" y=\"88\">14</text><text x=\"1160\" y=\"88\">16</text><text x=\"1280\" y=\"88\">18</text><text x=\"1400\" y=\"88\">20</text><text x=\"1520\" y=\"88\">22</text><text x=\"1640\" y=\"88\">24</text></g>\n"
+        )
+    );
+    assert!(rt;
+        text.contains(
+            "<g class=\"day\" id=\"2024-03-04\" transform=\"translate(200 208)\">\n<rect class=\"back\" x=\"0\" y=\"4\" width=\"1440\" height=\"28\"/>\n<path class=\"hour\" d=\"M0 4v28M120 4v28M240 4v28M360 4v28M480 4v28M600 4v28M720 4v28M840 4v28M960 4v28M1080 4v28M1200 4v28M1320 4v28M1440 4v28\"/>\n<text class=\"right\" x=\"-12\" y=\"26\">2024-03-04 Mon</text>\n<rect class=\"rest\" x=\"0\" y=\"26\" width=\"480\" height=\"6\"><title>2024-03-04 00:00 2024-03-04 08:00 rest single</title></rect>\n<rect class=\"work\" x=\"480\" y=\"12\" width=\"30\" height=\"20\"><title>2024-03-04 08:00 2024-03-04 08:30 work single</title></rect>\n<rect class=\"drive\" x=\"510\" y=\"4\" width=\"510\" height=\"28\"><title>2024-03-04 08:30 2024-03-04 17:00 drive single</title></rect>\n<rect class=\"drive crew\" x=\"1020\" y=\"4\" width=\"70\" height=\"28\"><title>2024-03-04 17:00 2024-03-04 18:10 drive crew</title></rect>\n<rect class=\"available crew\" x=\"1090\" y=\"20\" width=\"10\" height=\"12\"><title>2024-03-04 18:10 2024-03-04 18:20 available crew</title></rect>\n<rect class=\"unseen\" x=\"1020\" y=\"0\" width=\"420\" height=\"36\"/>\n<g class=\"breach\"><title>B1 Art 7 at 2024-03-04 13:00 since 2024-03-04 08:30 amount 240</title><path d=\"M780 0h6v36h-6z\"/></g>\n<text class=\"right\" x=\"1530\" y=\"26\">8:30</text>\n<text class=\"code\" x=\"1545\" y=\"26\"> B1</text>\n</g>\n"
+        )
+    );
+    assert!(rt;
+        text.ends_with(
+            "<g class=\"day\" id=\"2024-03-31\" transform=\"translate(200 1180)\">\n<rect class=\"back\" x=\"0\" y=\"4\" width=\"1440\" height=\"28\"/>\n<path class=\"hour\" d=\"M0 4v28M120 4v28M240 4v28M360 4v28M480 4v28M600 4v28M720 4v28M840 4v28M960 4v28M1080 4v28M1200 4v28M1320 4v28M1440 4v28\"/>\n<text class=\"right\" x=\"-12\" y=\"26\">2024-03-31 Sun</text>\n<rect class=\"unseen\" x=\"0\" y=\"0\" width=\"1440\" height=\"36\"/>\n<text class=\"right\" x=\"1530\" y=\"26\">0:00</text>\n<text class=\"code\" x=\"1545\" y=\"26\"></text>\n</g>\n<g transform=\"translate(200 1228)\">\n<rect class=\"rest\" x=\"0\" y=\"26\" width=\"40\" height=\"6\"/><text x=\"50\" y=\"32\">rest</text>\n<rect class=\"available\" x=\"140\" y=\"20\" width=\"40\" height=\"12\"/><text x=\"190\" y=\"32\">available</text>\n<rect class=\"work\" x=\"330\" y=\"12\" width=\"40\" height=\"20\"/><text x=\"380\" y=\"32\">other work</text>\n<rect class=\"drive\" x=\"530\" y=\"4\" width=\"40\" height=\"28\"/><text x=\"580\" y=\"32\">driving</text>\n<rect class=\"drive crew\" x=\"700\" y=\"4\" width=\"40\" height=\"28\"/><text x=\"750\" y=\"32\">second driver</text>\n<rect class=\"back\" x=\"930\" y=\"4\" width=\"40\" height=\"28\"/><text x=\"980\" y=\"32\">not known</text>\n<rect class=\"unseen\" x=\"1120\" y=\"0\" width=\"40\" height=\"36\"/><text x=\"1170\" y=\"32\">not examined</text>\n<path class=\"mark\" d=\"M1340 0h6v36h-6z\"/><text x=\"1350\" y=\"32\">breach</text>\n</g>\n</svg>\n"
         )
     );
     Ok(())
