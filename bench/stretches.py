@@ -1,12 +1,13 @@
 """Measures stretches next to reports, and a month of all drivers next to a report of each, on archives in files. Counts the instructions of
-stretches and of a month, and compares them with a plain Rust program over stock SQLite (plain/stretches.rs).
+stretches, of a month of all drivers and of the chart of a month, and compares them with a plain Rust program over stock SQLite
+(plain/stretches.rs).
 
 One archive has a driver with card files of ten years. Rest is entered in its gaps, so the report extends to the end. Another archive has
-the same files with their gaps, at each of which a stretch ends. There are two such archives of fifty drivers with a year each: the reports
-of the drivers are measured on the one without gaps, and a month of all drivers on both. tool_script opens an archive and runs the commands
-in turns. The time of a command that is refused because of its first argument is subtracted. Each time is the least of some rounds, and each
-ratio is the median of the rounds' ratios. The memory is what a command adds to the peak of a process that has opened the archive, as in
-report.py.
+the same files with their gaps, at each of which a stretch ends, and a third the last year of these. There are two archives of fifty drivers
+with a year each: the reports of the drivers are measured on the one without gaps, and a month of all drivers on both. tool_script opens an
+archive and runs the commands in turns. The time of a command that is refused because of its first argument is subtracted. Each time is the
+least of some rounds, and each ratio is the median of the rounds' ratios. The memory is what a command adds to the peak of a process that
+has opened the archive, as in report.py.
 
 Both programs have to print the same for the archives with gaps, and each reads a row once. The instructions of a command are those of a
 program that has run it as its first command, minus those of a program that has only opened the archive. So the start and the opening don't
@@ -106,6 +107,7 @@ def stretches(folder: str, script: str) -> None:
     sides: Sides = {"tacho": [script], "plain": [plain(folder, "stretches")]}
     filled, gaps = make(script, folder, YEARS), path_of(folder, "tacho", "gaps")
     fill(script, folder, gaps, DRIVER, YEARS)
+    fill(script, folder, path_of(folder, "tacho", "year"), DRIVER, 1)
     print(f"stretches of a driver, without the opening: processor time in ms, the least of {ROUNDS} rounds; ratio to the first row")
     works: Works = {
         f"breaches, {YEARS} years without a gap": (filled, [f"breaches - {DRIVER}"]),
@@ -131,10 +133,12 @@ def stretches(folder: str, script: str) -> None:
         "incidents, with gaps": (many, [f"incidents - {month}"]),
     }
     print_works(script, works, ROUNDS_OF_ALL)
-    for name in ("gaps", "many"):
+    for name in ("gaps", "many", "year"):
         write_by_stock(*(path_of(folder, side, name) for side in sides))
     counted_works = {
         f"stretches, {YEARS} years with gaps": ("gaps", f"stretches - {DRIVER}"),
         f"overview, {DRIVERS} drivers with gaps": ("many", f"overview - {month}"),
+        "chart, one year with gaps": ("year", f"chart - {DRIVER} {month}"),
+        f"chart, {YEARS} years with gaps": ("gaps", f"chart - {DRIVER} {month}"),
     }
     print_instructions(sides, folder, counted_works)

@@ -1,11 +1,12 @@
-//! Runs two of `tool_script`'s readings on an archive in a file, in plain Rust over std and stock SQLite: the stretches of a driver, and
-//! the overview of a month. It takes the same lines, and answers a command that succeeds in the same way. docs/RULES.md says what
-//! stretches are.
+//! Runs three of `tool_script`'s readings on an archive in a file, in plain Rust over std and stock SQLite: the stretches of a driver, the
+//! overview of a month, and the chart of a driver's month. It takes the same lines, and answers a command that succeeds in the same way.
+//! docs/RULES.md says what stretches are.
 #![allow(dead_code)]
 use std::env;
 use std::fmt::Write;
 
 mod archive;
+mod chart;
 #[path = "dump.rs"]
 mod dump;
 #[path = "entries.rs"]
@@ -18,6 +19,7 @@ mod reports;
 mod script;
 mod sqlite;
 
+use archive::{driver_with, Driver};
 use dump::Lines;
 use examine::{examine, week_of, week_start, Report, Span, WEEK};
 use reports::{amounts_of, days_of, held_by, held_from, push_breach, push_date, push_horizon, DAY};
@@ -105,11 +107,26 @@ fn overview(archive: &mut Database, month: &str) -> Option<String> {
     })
 }
 
+/// The chart of a driver's month, as SVG.
+fn chart(archive: &mut Database, driver: u32, month: &str) -> Option<String> {
+    let (first, days) = days_of(month)?;
+    let (name, base, spans) = archive.within("ROLLBACK", |archive| {
+        let Driver { base, name, .. } = driver_with(archive, driver)?;
+        Some((name, DAY * base, held_from(archive, driver, DAY * base.min(first))?))
+    })?;
+    let stretches = stretches_of(&spans, base);
+    String::from_utf8(chart::chart_of(driver, &name, &spans, &stretches, month, first, days)).ok()
+}
+
 /// Runs the command of a line. Returns the text to print, and the status.
 fn answer_to(archive: &mut Database, line: &str) -> (String, u8) {
     match line.split(' ').collect::<Vec<_>>()[..] {
         ["stretches", _, driver] => match script::number(driver) {
             Some(driver) => script::status_of(stretches(archive, driver)),
+            None => script::bad_number(),
+        },
+        ["chart", _, driver, month] => match script::number(driver) {
+            Some(driver) => script::status_of(chart(archive, driver, month)),
             None => script::bad_number(),
         },
         ["overview", _, month] => script::status_of(overview(archive, month)),
