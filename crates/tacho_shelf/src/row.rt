@@ -12,8 +12,8 @@ use tacho_card::Part;
 use tacho_line::{Line, LineFault};
 use tacho_rules::Report;
 use tacho_state::{
-    Driver, DriverSummary, Entered, Entry, EntryLine, Imported, StoreFault, first_number, line_of,
-    report_of, stretches_of,
+    Driver, DriverSummary, Entered, Entry, EntryLine, FileSummary, Imported, StoreFault,
+    file_summary, first_number, line_of, report_of, stretches_of,
 };
 use tacho_stretches::Stretch;
 use tacho_time::{Day, Span, SpanFault};
@@ -37,12 +37,20 @@ impl Model for Download {
 
 impl Download {
     ghost use Rattle.std.specs.Prelude.{◌≡◌, IfOk};
+    ghost use Rattle.tacho_state.specs.Files.{listed_file, told_file};
 
     /// Makes a copy of the file's bytes.
     pub(crate) fn copy_of_file(&self, alloc: Global) -> Result<Vec<u8>, AllocError>
         ensures { IfOk result (λ bytes. bytes.items ≡ self.now.file) }
     {
         Vec::from_slice(alloc, &self.file)
+    }
+
+    /// Returns what is listed of the file, which has this number.
+    fn summary(&self, number: u32) -> FileSummary
+        ensures { told_file result ≡ listed_file number self.now }
+    {
+        file_summary(number, self.part, &self.file, &self.spans)
     }
 }
 
@@ -84,6 +92,7 @@ impl Row {
     ghost use Rattle.tacho_state.specs.Steps.{import_own, enter_own, withdraw_own, most_records, numbered_from};
     ghost use Rattle.tacho_state.specs.Limits.{next_number};
     ghost use Rattle.tacho_state.specs.Content.{part_number};
+    ghost use Rattle.tacho_state.specs.Files.{listed_from, told_file};
     ghost use Rattle.tacho_state.specs.Summaries.{summary_of, told_summary};
     ghost use Rattle.tacho_shelf.specs.Shelf.{IsStepFault, IsLeast, IsEnteredAt, AreKept, new_driver, import_answer};
 
@@ -216,6 +225,19 @@ impl Row {
     {
         let place = number.checked_sub(1)?;
         self.downloads.get(place as usize)
+    }
+
+    /// Lists the driver's card files ordered by number.
+    pub(crate) fn files(&self, alloc: Global) -> Result<Vec<FileSummary>, AllocError>
+        ensures { IfOk result (λ files. map told_file files.items ≡ listed_from 1 self.now.downloads) }
+    {
+        let mut files = Vec::new(alloc);
+        let mut number = 1u32;
+        for download in &self.downloads {
+            files.push(download.summary(number))?;
+            number += 1;
+        }
+        Ok(files)
     }
 
     /// True if the downloads already give all that the spans give.

@@ -8,6 +8,7 @@ ghost use Rattle.tacho_state.specs.Batch.{IsBatch, batch_of};
 ghost use Rattle.tacho_state.specs.Steps.{Content, register_step, import_step, enter_step, withdraw_step, rebase_step, refusal_turn, owner, name_reading, line_reading, entries_reading, file_reading, report_reading, known_driver};
 ghost use Rattle.tacho_state.specs.Reported.{AreStretchesOf, IsHeldWithin, IsDriverReport};
 ghost use Rattle.tacho_stretches.specs.Stretches.{judged_of};
+ghost use Rattle.tacho_state.specs.Files.{files_reading, told_file};
 ghost use Rattle.tacho_state.specs.Summaries.{AreSummaries, told_summary};
 ghost use Rattle.tacho_state.specs.Acts.{Answers, caller_number};
 ghost use Rattle.tacho_shelf.specs.Shelf.{Turns, IsOwnerAt, known_by, owner_of, new_driver};
@@ -20,8 +21,8 @@ use tacho_card::Part;
 use tacho_line::Line;
 use tacho_rules::Report;
 use tacho_state::{
-    Caller, Driver, DriverSummary, Entered, Entry, EntryLine, Imported, Keeper, StoreFault,
-    is_monday,
+    Caller, Driver, DriverSummary, Entered, Entry, EntryLine, FileSummary, Imported, Keeper,
+    StoreFault, is_monday,
 };
 use tacho_stretches::Stretch;
 use tacho_time::{Day, Minute};
@@ -217,6 +218,19 @@ impl Shelf {
         };
         match self.drivers[place].entries(alloc) {
             Ok(entries) => Ok(entries),
+            Err(_) => Err(StoreFault::Memory),
+        }
+    }
+
+    /// Lists the card files of a driver ordered by number: S4.
+    fn files_of(&self, alloc: Global, driver: u32) -> Result<Vec<FileSummary>, StoreFault>
+        ensures { Answers (λ files. map told_file files.items) result (files_reading driver self.now) }
+    {
+        let Some(place) = place_of(&self.drivers, driver) else {
+            return Err(StoreFault::UnknownDriver);
+        };
+        match self.drivers[place].files(alloc) {
+            Ok(files) => Ok(files),
             Err(_) => Err(StoreFault::Memory),
         }
     }
@@ -423,6 +437,10 @@ impl Keeper for Shelf {
 
     fn download(&mut self, alloc: Global, driver: u32, number: u32) -> Result<Vec<u8>, StoreFault> {
         self.file_of(alloc, driver, number)
+    }
+
+    fn files(&mut self, alloc: Global, driver: u32) -> Result<Vec<FileSummary>, StoreFault> {
+        self.files_of(alloc, driver)
     }
 
     fn report(&mut self, alloc: Global, driver: u32) -> Result<Report, StoreFault> {

@@ -8,6 +8,7 @@ ghost use Rattle.tacho_stretches.specs.Stretches.{judged_of};
 ghost use Rattle.tacho_state.specs.Batch.{IsBatch, batch_of};
 ghost use Rattle.tacho_state.specs.Registration.{IsReadDay};
 ghost use Rattle.tacho_state.specs.Content.{FileTells, part_number};
+ghost use Rattle.tacho_state.specs.Files.{files_reading, told_file};
 ghost use Rattle.tacho_state.specs.Summaries.{AreSummaries, told_summary};
 ghost use Rattle.tacho_state.specs.Acts.{Acts, Reads, IsOfNoFile, caller_number};
 ghost use Rattle.tacho_state.specs.declared.imported.Imported.TheVariants.{Repeated};
@@ -17,6 +18,7 @@ use crate::caller::Caller;
 use crate::driver::Driver;
 use crate::entry::{Entered, Entry, EntryLine};
 use crate::fault::StoreFault;
+use crate::file::FileSummary;
 use crate::imported::Imported;
 use crate::summary::DriverSummary;
 use std::alloc::Global;
@@ -144,6 +146,10 @@ pub trait Keeper {
     /// Returns the bytes of a driver's download: S4, S10.
     fn download(&mut self, alloc: Global, driver: u32, number: u32) -> Result<Vec<u8>, StoreFault>
         ensures { Reads stands is_clean is_live leaves is_same (λ bytes. bytes.items) self.old self.new result (file_reading driver number) };
+
+    /// Lists the card files of a driver ordered by number: S4.
+    fn files(&mut self, alloc: Global, driver: u32) -> Result<Vec<FileSummary>, StoreFault>
+        ensures { Reads stands is_clean is_live leaves is_same (λ files. map told_file files.items) self.old self.new result (files_reading driver) };
 
     /// Returns the report of a driver's timeline from the base: S4.
     fn report(&mut self, alloc: Global, driver: u32) -> Result<Report, StoreFault>
