@@ -77,6 +77,9 @@ entries = refl
 file : act_named (codes "file") subcommands ≡ Some (act.AtDesk want.File)
 file = refl
 
+files : act_named (codes "files") subcommands ≡ Some (act.AtDesk (want.Reading reading.Files))
+files = refl
+
 drivers : act_named (codes "drivers") subcommands ≡ Some (act.AtDesk want.Drivers)
 drivers = refl
 
@@ -99,7 +102,7 @@ serve : act_named (codes "serve") subcommands ≡ Some act.Serve
 serve = refl
 
 -- another name is no subcommand
-other_name : act_named (codes "files") subcommands ≡ None
+other_name : act_named (codes "holders") subcommands ≡ None
 other_name = refl
 
 -- a subcommand and its arguments, as they are given
@@ -111,7 +114,7 @@ all_given : map given subcommands
     ∷ codes "import archive part" ∷ codes "enter archive driver" ∷ codes "withdraw archive driver number" ∷ codes "base archive driver date"
     ∷ codes "spans archive driver month" ∷ codes "gaps archive driver month" ∷ codes "sheet archive driver month" ∷ codes "chart archive driver month"
     ∷ codes "breaches archive driver" ∷ codes "owed archive driver" ∷ codes "entries archive driver"
-    ∷ codes "file archive driver number" ∷ codes "drivers archive" ∷ codes "stretches archive driver" ∷ codes "debts archive driver"
+    ∷ codes "file archive driver number" ∷ codes "files archive driver" ∷ codes "drivers archive" ∷ codes "stretches archive driver" ∷ codes "debts archive driver"
     ∷ codes "overview archive month" ∷ codes "incidents archive month" ∷ codes "form archive driver"
     ∷ codes "serve archive key port count" ∷ []
 all_given = refl

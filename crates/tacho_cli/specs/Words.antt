@@ -61,6 +61,7 @@ subcommands =
     ∷ (codes "owed", codes "archive" ∷ codes "driver" ∷ [], act.AtDesk (want.Reading reading.Owed))
     ∷ (codes "entries", codes "archive" ∷ codes "driver" ∷ [], act.AtDesk (want.Reading reading.Entries))
     ∷ (codes "file", codes "archive" ∷ codes "driver" ∷ codes "number" ∷ [], act.AtDesk want.File)
+    ∷ (codes "files", codes "archive" ∷ codes "driver" ∷ [], act.AtDesk (want.Reading reading.Files))
     ∷ (codes "drivers", codes "archive" ∷ [], act.AtDesk want.Drivers)
     ∷ (codes "stretches", codes "archive" ∷ codes "driver" ∷ [], act.AtDesk (want.Reading reading.Stretches))
     ∷ (codes "debts", codes "archive" ∷ codes "driver" ∷ [], act.AtDesk (want.Reading reading.Debts))

@@ -40,7 +40,7 @@ impl From<AllocError> for Usage {
 type Row = (&'static str, &'static str, &'static [&'static str], Act);
 
 /// The subcommands.
-static TABLE: [Row; 25] = [
+static TABLE: [Row; 26] = [
     (
         "dump",
         "Prints the spans of the value of an EF Driver_Activity_Data (0504), a line each: tacho dump < FILE",
@@ -148,6 +148,12 @@ static TABLE: [Row; 25] = [
         "Prints a card download file that was kept",
         &["archive", "driver", "number"],
         Act::AtDesk(Want::File),
+    ),
+    (
+        "files",
+        "Prints the card files of a driver, a line each: number, part, length in bytes, first minute, past, and SHA-256",
+        &["archive", "driver"],
+        Act::AtDesk(Want::Reading(Reading::Files)),
     ),
     (
         "drivers",

@@ -16,6 +16,7 @@ use Rattle.tacho_state.specs.Least.{is_within, least_conflict}
 use Rattle.tacho_state.specs.Acts.{caller_number}
 use Rattle.tacho_state.specs.Registration.{Registration}
 use Rattle.tacho_state.specs.State.{Driver, State, driver_of, given_spans, held_spans, put}
+use Rattle.tacho_state.specs.Files.{files_reading}
 use Rattle.tacho_state.specs.Steps.{Content, Own, Turn, file_reading, enter_step, import_by_driver, import_step, kept_by, entries_reading, most_records, own_turn, rebase_step, register_step, turn_of, reading_of, withdraw_step}
 use Rattle.tacho_state.specs.declared.caller.Caller.TheVariants as caller
 use Rattle.tacho_state.specs.declared.fault.StoreFault.{StoreFault}
@@ -69,6 +70,7 @@ reading_stays reading.Entries n s answer after h = h.1
 reading_stays reading.Stretches n s answer after h = h.1
 reading_stays reading.Debts n s answer after h = h.1
 reading_stays reading.Form n s answer after h = h.1
+reading_stays reading.Files n s answer after h = h.1
 
 -- nor does a reading of a month
 month_stays : (text : MonthReading) (month n : ℕ) (s : State) (answer : Answer) (after : State) → ShowsMonth text month n s answer after → after ≡ s
@@ -232,6 +234,7 @@ reading_same reading.Entries n s other e answer after h = lists_same _ _ n s oth
 reading_same reading.Stretches n s other e answer after h = shows_same _ n s other e answer after h
 reading_same reading.Debts n s other e answer after h = shows_same _ n s other e answer after h
 reading_same reading.Form n s other e answer after h = shows_same _ n s other e answer after h
+reading_same reading.Files n s other e answer after h = lists_same _ _ n s other e answer after h
 
 -- so do the texts of a month
 month_same : (text : MonthReading) (month n : ℕ) (s other : State) → driver_of n s ≡ driver_of n other → (answer : Answer) (after : State)
@@ -358,6 +361,7 @@ module _ (one_content : (p : Part) (bytes : List ℕ) (a b : Result Content Card
       one_shown _ (one_of_stretches (λ d stretches text. text ≡ debt_text stretches) (λ d stretches x y i j. i ∙ sym j))
       n s a b after left h k
   one_reading reading.Form n s a b after left h k = one_shown IsFormOf one_form_of n s a b after left h k
+  one_reading reading.Files n s a b after left h k = one_listed _ s (files_reading n s) a b after left h k
 
   -- each text of a driver's month is unique
   one_month : (text : MonthReading) (month n : ℕ) (s : State) (a b : Answer) (after left : State)

@@ -11,6 +11,7 @@ use Rattle.tacho_stretches.specs.Stretches.{Judged, AreStretches}
 use Rattle.tacho_state.specs.Acts.{caller_number}
 use Rattle.tacho_state.specs.Batch.{batch_of}
 use Rattle.tacho_state.specs.Content.{FileTells, part_number}
+use Rattle.tacho_state.specs.Files.{files_reading}
 use Rattle.tacho_state.specs.Registration.{Registration}
 use Rattle.tacho_state.specs.State.{Driver, State, driver_of, held_spans}
 use Rattle.tacho_state.specs.Steps.{Content, register_step, import_step, enter_step, withdraw_step, rebase_step, entries_reading, file_reading}
@@ -30,7 +31,7 @@ use Rattle.tacho_sheet.specs.Months.{overview_head, IsOverviewRow, incident_head
 use Rattle.tacho_sheet.specs.Stretches.{stretch_text, debt_text}
 use Rattle.tacho_sheet.specs.Chart.{IsMonthChart}
 use Rattle.tacho_sheet.specs.Reports.{breach_text, owed_text, IsGapText, IsMonthSheet, IsSpanCsv}
-use Rattle.tacho_sheet.specs.Text.{entry_line, summary_line}
+use Rattle.tacho_sheet.specs.Text.{entry_line, file_line, summary_line}
 use Rattle.tacho_desk.specs.Doing.{Doing, IsText, Lists, Refuses, Shows, Steps}
 use Rattle.tacho_desk.specs.Fault.{sheet_fault, fault_of_store}
 use Rattle.tacho_desk.specs.Told.{Told, Added, Line, Long, File}
@@ -113,6 +114,7 @@ ShowsReading reading.Entries n s = Lists (λ entries. Long (flat_map entry_line 
 ShowsReading reading.Stretches n s = Shows (OfStretches (λ stretches text. text ≡ stretch_text stretches)) n s
 ShowsReading reading.Debts n s = Shows (OfStretches (λ stretches text. text ≡ debt_text stretches)) n s
 ShowsReading reading.Form n s = Shows IsFormOf n s
+ShowsReading reading.Files n s = Lists (λ files. Long (flat_map file_line files)) s (files_reading n s)
 
 -- a text of a driver's month
 abbrev pub ShowsMonth : MonthReading → ℕ → ℕ → State → Doing

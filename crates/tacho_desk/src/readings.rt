@@ -12,8 +12,8 @@ use crate::text::Text;
 use crate::want::{MonthReading, Reading};
 use std::alloc::Global;
 use tacho_sheet::{
-    breach_text, debt_text, driver_text, entry_text, form_text, gap_text, month_chart, month_sheet,
-    owed_text, span_csv, stretch_text,
+    breach_text, debt_text, driver_text, entry_text, file_text, form_text, gap_text, month_chart,
+    month_sheet, owed_text, span_csv, stretch_text,
 };
 use tacho_state::Keeper;
 use tacho_stretches::range_of;
@@ -37,6 +37,7 @@ pub(crate) fn show<K: Keeper>(
         Reading::Stretches => stretches(alloc, keeper, driver),
         Reading::Debts => debts(alloc, keeper, driver),
         Reading::Form => form(alloc, keeper, driver),
+        Reading::Files => files(alloc, keeper, driver),
     }
 }
 
@@ -169,6 +170,16 @@ fn form<K: Keeper>(alloc: Global, keeper: &mut K, driver: u32) -> Result<Text, F
     let (base, end) = range_of(&stretches);
     let line = keeper.line_within(alloc, driver, base, end)?;
     Ok(Text::Long(form_text(alloc, &line, base, end)?))
+}
+
+/// Lists the card files of a driver.
+fn files<K: Keeper>(alloc: Global, keeper: &mut K, driver: u32) -> Result<Text, Fault>
+    ensures serves { Serves K.stands K.is_clean K.is_live K.leaves K.is_same keeper.old keeper.new false (answer_of result)
+        (ShowsReading reading.Files driver) }
+    ensures archive { IsOfArchive (answer_of result) }
+{
+    let files = keeper.files(alloc, driver)?;
+    Ok(Text::Long(file_text(alloc, &files)?))
 }
 
 /// Answers with a card file of the archive.

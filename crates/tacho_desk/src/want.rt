@@ -38,6 +38,8 @@ pub enum Reading {
     Debts,
     /// CSV of the minutes that aren't held, to be filled in and entered.
     Form,
+    /// The card files, with the SHA-256 digest of each.
+    Files,
 }
 
 /// A text about a driver's month.

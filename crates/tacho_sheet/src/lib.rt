@@ -31,4 +31,4 @@ pub use number::read_number;
 pub use reports::{breach_text, gap_text, owed_text, span_csv};
 pub use sheet::month_sheet;
 pub use stretches::{debt_text, stretch_text};
-pub use text::{driver_text, entry_text};
+pub use text::{driver_text, entry_text, file_text};

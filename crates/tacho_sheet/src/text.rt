@@ -1,10 +1,13 @@
 ghost use Rattle.std.specs.Prelude.{◌≡◌, ◌++◌, flat_map, map, IfOk, OnOk, string_bytes};
+ghost use Rattle.tacho_state.specs.Content.{part_number};
+ghost use Rattle.tacho_state.specs.Files.{told_file};
 ghost use Rattle.tacho_state.specs.Summaries.{told_summary};
-ghost use Rattle.tacho_sheet.specs.Text.{entry_line, kept_word, summary_line};
+ghost use Rattle.tacho_sheet.specs.Text.{entry_line, file_line, kept_word, part_word, summary_line};
 
 use crate::lines::push_bytes;
 use std::alloc::{AllocError, Global};
-use tacho_state::{DriverSummary, Entry};
+use tacho_card::Part;
+use tacho_state::{DriverSummary, Entry, FileSummary};
 use tacho_time::write_day;
 
 /// Writes a driver's entries: for each its number, start, past, activity, `kept` or `withdrawn`, and author and note in double quotes,
@@ -68,4 +71,41 @@ fn push_driver(text: &mut String, driver: &DriverSummary) -> Result<(), AllocErr
     text.push_str(" ")?;
     write_day(text, driver.base)?;
     writeln!(text, " {downloads} {entries} {name}")
+}
+
+/// Writes the list of a driver's card files: for each the number, the part that was read, the length in bytes, the first minute and the
+/// minute after the last, and the SHA-256 digest in 64 hexadecimal digits, separated by blanks, and a line feed.
+pub fn file_text(alloc: Global, files: &[FileSummary]) -> Result<String, AllocError>
+    ensures { IfOk result (λ text. string_bytes text ≡ flat_map file_line (map told_file files.now)) }
+{
+    let mut text = String::new(alloc);
+    for file in files {
+        push_file(&mut text, file)?;
+    }
+    Ok(text)
+}
+
+/// Appends the line of a card file.
+fn push_file(text: &mut String, file: &FileSummary) -> Result<(), AllocError>
+    ensures { OnOk result (string_bytes text.new ≡ string_bytes text.old ++ file_line (told_file file.now)) }
+{
+    let number = file.number;
+    let part = word_of_part(file.part);
+    let length = file.length;
+    let first = file.first;
+    let past = file.past;
+    write!(text, "{number} {part} {length} {first} {past} ")?;
+    push_bytes(text, &file.digest)?;
+    text.push_str("\n")
+}
+
+/// `both`, `first` or `second`.
+fn word_of_part(part: Part) -> &'static str
+    ensures { result.now ≡ part_word (part_number part) }
+{
+    match part {
+        Part::Both => "both",
+        Part::First => "first",
+        Part::Second => "second",
+    }
 }
