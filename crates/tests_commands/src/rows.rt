@@ -58,6 +58,12 @@ start,past,activity,manning
 2024-03-05 00:00,2024-03-05 08:00,rest,single
 ";
 
+/// The card files after `NOON`, and then `A_DAY`. Another program computed the digests.
+const NOON_AND_DAY: &str = "\
+1 both 49 2024-03-04 00:00 2024-03-04 08:30 598e355bfc23fd5caae19d58ee36c47a6356ce57e7ea3c53237539a4bb70fb89
+2 both 67 2024-03-04 00:00 2024-03-05 08:00 bab6b34b1d6c80c09cb0ca89255359ec210d319c8893efa63f9e2b4059e2afaf
+";
+
 const GAPS: &str = "\
 2024-03-01 00:00 2024-03-04 00:00
 2024-03-04 17:00 2024-03-05 00:00
@@ -124,6 +130,13 @@ static ROWS: [(&str, &[Command]); 8] = [
             ),
             ("import both", A_DAY, "repeated driver 17\n", 0),
             ("file 17 1", "", A_DAY, 0),
+            (
+                "files 17",
+                "",
+                "1 both 67 2024-03-04 00:00 2024-03-05 08:00 bab6b34b1d6c80c09cb0ca89255359ec210d319c8893efa63f9e2b4059e2afaf\n",
+                0,
+            ),
+            ("files 18", "", "S4 unknown driver\n", 1),
         ],
     ),
     (
@@ -152,6 +165,7 @@ static ROWS: [(&str, &[Command]); 8] = [
             ("import both", "", "C3 no identification\n", 1),
             ("import both", NO_RECORDS, "repeated driver 17\n", 0),
             ("file 17 1", "", "S10 unknown download\n", 1),
+            ("files 17", "", "", 0),
             (
                 "import both",
                 TWO_BLOCKS,
@@ -159,6 +173,12 @@ static ROWS: [(&str, &[Command]); 8] = [
                 1,
             ),
             ("import first", TWO_BLOCKS, "added driver 17 number 1\n", 0),
+            (
+                "files 17",
+                "",
+                "1 first 112 2024-03-04 00:00 2024-03-05 08:00 9b41058a39e9dd9326708592c7bfa009cf5d278c07563d022ef5087edcb779b5\n",
+                0,
+            ),
         ],
     ),
     (
@@ -167,6 +187,7 @@ static ROWS: [(&str, &[Command]); 8] = [
             ("import both", NOON, "added driver 17 number 1\n", 0),
             ("import both", A_DAY, "added driver 17 number 2\n", 0),
             ("import both", NOON, "repeated driver 17\n", 0),
+            ("files 17", "", NOON_AND_DAY, 0),
             ("spans 17 2024-03", "", SPANS, 0),
         ],
     ),

@@ -1,13 +1,13 @@
 use crate::same::assert_same;
 use std::alloc::Global;
 use std::test::Fail;
-use tacho_card::CardFault;
+use tacho_card::{CardFault, Part};
 use tacho_sheet::{
-    Fault, LeftOut, SheetFault, base_line, entered_line, entry_text, fault_line, imported_line,
-    read_driver, read_entries, read_number, registered_line, withdrawn_line,
+    Fault, LeftOut, SheetFault, base_line, entered_line, entry_text, fault_line, file_text,
+    imported_line, read_driver, read_entries, read_number, registered_line, withdrawn_line,
 };
-use tacho_state::{Column, Entered, Entry, EntryLine, Imported, StoreFault};
-use tacho_time::{Activity, Day, Minute, TimeFault};
+use tacho_state::{Column, Entered, Entry, EntryLine, Imported, StoreFault, file_summary};
+use tacho_time::{Activity, Day, Mark, Minute, Span, TimeFault};
 
 // `checks/failing_sheet.py` runs each test with each of its allocations refused in turn. So a test returns an error by `?` if it runs out
 // of memory, and asserts everything else.
@@ -629,6 +629,42 @@ fn entries_are_printed(rt: HostRuntime) -> Result<(), Fail> {
         &rt,
         text.as_str(),
         "1 2024-03-04 00:00 2024-03-04 12:00 rest withdrawn \"office\" \"\"\n2 2024-03-04 06:00 2024-03-04 18:00 work kept \"Eva Lund\" \"day off\"\n",
+    );
+    Ok(())
+}
+
+/// Returns a span of rest from one minute after Monday's first to before another.
+fn rest_span(start: u32, past: u32) -> Span {
+    Span {
+        start: Minute::new(MONDAY + start % 10_080),
+        past: Minute::new(MONDAY + past % 10_080),
+        mark: Mark {
+            activity: Activity::Rest,
+            crew: false,
+        },
+    }
+}
+
+/// The digests are those of the examples of FIPS 180-4.
+#[test]
+fn card_files_are_listed(rt: HostRuntime) -> Result<(), Fail> {
+    let long = "abcdbcdecdefdefgefghfghighijhijkijkljklmklmnlmnomnopnopq";
+    let spans = [rest_span(0, 480), rest_span(600, 1_439)];
+    let one = [rest_span(1_440, 1_441)];
+    let files = [
+        file_summary(1, Part::Both, "abc".as_bytes(), &spans),
+        file_summary(2, Part::First, "".as_bytes(), &one),
+        file_summary(1_000_000, Part::Second, long.as_bytes(), &spans),
+    ];
+    let text = file_text(rt.alloc(), &files)?;
+    assert_same(
+        &rt,
+        text.as_str(),
+        "\
+1 both 3 2024-03-04 00:00 2024-03-04 23:59 ba7816bf8f01cfea414140de5dae2223b00361a396177a9cb410ff61f20015ad
+2 first 0 2024-03-05 00:00 2024-03-05 00:01 e3b0c44298fc1c149afbf4c8996fb92427ae41e4649b934ca495991b7852b855
+1000000 second 56 2024-03-04 00:00 2024-03-04 23:59 248d6a61d20638b8e5c026930c3e6039a33ce45964ff2167f6ecedd419db06c1
+",
     );
     Ok(())
 }

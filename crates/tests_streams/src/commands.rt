@@ -368,7 +368,7 @@ fn writers_fail_at_each_call(rt: HostRuntime) -> Result<(), Fail> {
 }
 
 /// Arguments, and the job that they name.
-static JOBS: [(&[&str], Job<'static>); 25] = [
+static JOBS: [(&[&str], Job<'static>); 26] = [
     (&["tacho", "dump"], Job::Dump),
     (&["tacho", "holder"], Job::Holder),
     (&["tacho", "card", "first"], Job::Card { part: "first" }),
@@ -483,6 +483,15 @@ static JOBS: [(&[&str], Job<'static>); 25] = [
             want: Want::File,
             driver: "17",
             word: "3",
+        }),
+    ),
+    (
+        &["tacho", "files", "a.db", "17"],
+        Job::AtDesk(DeskJob {
+            archive: "a.db",
+            want: Want::Reading(Reading::Files),
+            driver: "17",
+            word: "",
         }),
     ),
     (
@@ -640,6 +649,7 @@ Commands:
   owed       Prints the weekly rests that are owed
   entries    Prints the hours that were entered by hand
   file       Prints a card download file that was kept
+  files      Prints the card files of a driver, a line each: number, part, length in bytes, first minute, past, and SHA-256
   drivers    Prints the drivers, a line each: number, holder, base, how many card files and entries, and name
   stretches  Prints the breaches from the base on, and anew from the next held Monday after each end; and what isn't examined
   debts      Prints the weekly rests that are owed, by the same stretches
@@ -725,7 +735,7 @@ For more information, try '--help'.
 
 const NO_COMMAND: &str = "\
 error: 'tacho' requires a subcommand but one was not provided
-  [subcommands: dump, holder, card, init, migrate, register, import, enter, withdraw, base, spans, gaps, sheet, chart, breaches, owed, entries, file, drivers, stretches, debts, overview, incidents, form, serve, help]
+  [subcommands: dump, holder, card, init, migrate, register, import, enter, withdraw, base, spans, gaps, sheet, chart, breaches, owed, entries, file, files, drivers, stretches, debts, overview, incidents, form, serve, help]
 
 Usage: tacho <COMMAND>
 
