@@ -1,11 +1,11 @@
 #!/usr/bin/env python3
-"""Compares the readings of stretches, of a month of all drivers, of a month's chart and of the form for gaps with expected outputs and with
-the slow office.
+"""Compares the readings of stretches, of a month of all drivers, of a month's chart, of card files and of the form for gaps with expected
+outputs and with the slow office.
 
 The folders of checks/readings have commands, their input files, and what the readings print after them, computed by a program that shares
-no code with this repository. Of a chart they have the lines of lib/charts.py. Then come random archives of two drivers: weeks with gaps and crew at any place, often at a Monday's first
-minute or beside it; bases before, within and after what is held; and the last minutes of 2099. Each form is filled in and entered: then no
-gap is left. Arguments: the program and `tool_script`. The last line is 'N passed, M failed'."""
+no code with this repository. Of a chart they have the lines of lib/charts.py. Then come random archives of two drivers: weeks with gaps and
+crew at any place, often at a Monday's first minute or beside it; bases before, within and after what is held; and the last minutes of 2099.
+Each form is filled in and entered: then no gap is left. Arguments: the program and `tool_script`. The last line is 'N passed, M failed'."""
 import os
 import random
 import subprocess
@@ -167,6 +167,7 @@ def commands_of(seed):
         for number in map(str, NUMBERS):
             add(["stretches", number], b"")
             add(["debts", number], b"")
+            add(["files", number], b"")
             forms.append((number, add(["form", number], b"")))
         for month in sorted(months):
             for number in map(str, NUMBERS):

@@ -56,6 +56,7 @@ CASES = {
     "a chart": (WITH_DAY, (["chart", "17", "2024-03"], b"")),
     "entries": ([*WITH_HOURS, SIGNED], (["entries", "17"], b"")),
     "a file": (WITH_DAY, (["file", "17", "1"], b"")),
+    "the list of files": (WITH_DAY, (["files", "17"], b"")),
     "drivers": ([*WITH_HOURS, OTHER], (["drivers"], b"")),
     "stretches": ([*WITH_HOURS, GAP], (["stretches", "17"], b"")),
     "debts": ([*WITH_HOURS, GAP], (["debts", "17"], b"")),

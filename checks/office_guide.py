@@ -6,6 +6,7 @@ README.md shows of the tour is compared with examples/tour.expected, and the edi
 
 Argument: the program. The last line is 'N passed, M failed'."""
 import contextlib
+import hashlib
 import os
 import re
 import shutil
@@ -408,6 +409,26 @@ def months(office):
         yield "the file as it came", file.read(), DAY
 
 
+def inspections(office):
+    """What is written for an officer: of the card files those that cover a minute of March."""
+    listed = office.told("files", "17")
+    yield office.typed("./tacho files archive.db 17 > files.txt", "")
+    yield "the list of card files", office.read("files.txt"), listed
+    for name, command in [("entries.txt", "entries"), ("stretches.txt", "stretches")]:
+        yield name, office.read(name), office.told(command, "17")
+    yield "chart.svg", office.read("chart.svg"), office.told("chart", "17", "2024-03")
+    lines = [line.split(" ") for line in listed.splitlines()]
+    wanted = {f"17-{number}.ddd": digest for number, _, _, first, _, past, time, digest in lines
+              if first < "2024-04" and f"{past} {time}" > "2024-03-01 00:00"}
+    found = {}
+    for name in sorted(os.listdir(office.folder)):
+        if re.fullmatch(r"17-[0-9]+\.ddd", name):
+            with open(office.path(name), "rb") as file:
+                found[name] = hashlib.sha256(file.read()).hexdigest()
+    yield "the card files of March", found, wanted
+    yield "whether some card files are of March and others aren't", 0 < len(wanted) < len(lines), True
+
+
 # What the page and docs/RULES.md say of a rest that is too short by ten minutes, and of leave: what was done, from Monday, 4 March
 # 2024, with rest between. Times are days of March and hours of the day; the 32nd is 1 April.
 SHORT_REST = [
@@ -655,7 +676,7 @@ def comparisons(program: str) -> counting.Comparisons:
     with tempfile.TemporaryDirectory() as folder:
         office = Office(program, folder)
         try:
-            for part in (front, beginnings, weeks, spreadsheets, months, readings, backups, updates, services):
+            for part in (front, beginnings, weeks, spreadsheets, months, inspections, readings, backups, updates, services):
                 yield from part(office)
         finally:
             office.end()

@@ -56,7 +56,7 @@ DATABASE = Order(
         ("the tables, and their rows as values of types", "tacho_tables: Schema Rows Tables Making"),
         ("an archive's state, and which state the tables represent", "tacho_state: State; tacho_reading: Standing"),
         ("what each command and each reading answers, and the state after it",
-         "tacho_state: Steps Content Batch Registration Limits Least Disjoint Reported Summaries"),
+         "tacho_state: Steps Content Batch Registration Limits Least Disjoint Reported Summaries Files"),
         ("what a call does to an archive, and what a crash within it or after several leaves",
          "tacho_state: Acts; tacho_reading: Kept; tacho_state: Runs"),
         ("how an archive is made, found again and carried over from schema 1; the tables after a command",

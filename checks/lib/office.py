@@ -24,6 +24,7 @@ READINGS = [
     "owed 17",
     "entries 17",
     "file 17 1",
+    "files 17",
     "drivers",
     "stretches 17",
     "debts 17",

@@ -8,7 +8,7 @@ from slow.slow_office import Command
 
 LINES = 30
 FIRST_DAY = 10_957  # 2000-01-01, the first day of a month that is read
-READINGS = ["spans", "gaps", "sheet", "chart", "breaches", "breaches", "owed", "owed", "entries", "entries", "file", "drivers", "migrate"]
+READINGS = ["spans", "gaps", "sheet", "chart", "breaches", "breaches", "owed", "owed", "entries", "files", "file", "drivers", "migrate"]
 READINGS += ["stretches", "stretches", "debts", "overview", "incidents", "form"]
 BAD_DRIVERS = ["017", "0", "1000000", "", "+17", "1e3", "\u0661\u0667"]
 BAD_NUMBERS = ["0", "01", "1000001", "x", "99999999999999999999"]

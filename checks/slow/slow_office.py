@@ -6,6 +6,7 @@ command more than the program, `own`: the import of a card file by the driver wh
 which `migrate` leaves as it is."""
 import datetime
 import functools
+import hashlib
 import re
 from collections.abc import Callable, Iterable, Sequence
 
@@ -399,6 +400,19 @@ def form_text(held: Marks, base: int) -> str:
     return "".join(["start,past,activity,author,note\n", *lines])
 
 
+# The card files of a driver
+
+
+def file_line(number: int, download: slow_archive.Download) -> str:
+    """What is listed of a card file: its number, part and length, the first minute of its spans and the one after their last, and its
+    digest."""
+    first, past = min(download.marks), max(download.marks) + 1
+    return (
+        f"{number} {download.part} {len(download.file)} {slow_reader.minute_text(first)} {slow_reader.minute_text(past)} "
+        f"{hashlib.sha256(download.file).hexdigest()}\n"
+    )
+
+
 # The office
 
 
@@ -439,6 +453,7 @@ class Office:
             "owed": lambda: self.owed(*others),
             "entries": lambda: self.entries(*others),
             "file": lambda: self.file(*others),
+            "files": lambda: self.files(*others),
             "drivers": self.drivers,
             "stretches": lambda: self.stretches(*others),
             "debts": lambda: self.debts(*others),
@@ -544,6 +559,10 @@ class Office:
         """A card file of a driver: N1, S4, S10."""
         driver, place = number_of(number, LAST_DRIVER), number_of(download, LAST_NUMBER)
         return self.archive.download(driver, place)
+
+    def files(self, number: str) -> str:
+        """A line for each card file of a driver: N1, S4."""
+        return "".join(file_line(place, download) for place, download in enumerate(self.driver(number).downloads, 1))
 
     def drivers(self) -> str:
         """A line for each driver."""
