@@ -63,23 +63,24 @@ none_rows n i number (d ∷ ds) e = go (i == number) e (none_rows n (i + 1) numb
   go true f more = cc
   go false f more = more f
 
--- a row with the number has the download's file
-row_file : (n i number : ℕ) (ds : List Download) (row : DownloadRow) → Contains (filter (has_own_number number) (rows_of_downloads n i ds)) row
-    → file_of (download_from i number ds) ≡ Ok row.file
-row_file n i number [] row h = absurd (none_there row h)
-row_file n i number (d ∷ ds) row h = go (i == number) refl h (row_file n (i + 1) number ds row) where
+-- a row with the number is that of the download with this number
+row_is : (n i number : ℕ) (ds : List Download) (row : DownloadRow) → Contains (filter (has_own_number number) (rows_of_downloads n i ds)) row
+    → (x : Download) × (download_from i number ds ≡ Some x) × (row ≡ download_row n number x)
+row_is n i number [] row h = absurd (none_there row h)
+row_is n i number (d ∷ ds) row h = go (i == number) refl h (row_is n (i + 1) number ds row) where
   go : (b : Bool) → (i == number) ≡ b → Contains
       (cond b (download_row n i d ∷ filter (has_own_number number) (rows_of_downloads n (i + 1) ds))
       (filter (has_own_number number) (rows_of_downloads n (i + 1) ds))) row
       → (Contains (filter (has_own_number number) (rows_of_downloads n (i + 1) ds)) row
-      → file_of (download_from (i + 1) number ds) ≡ Ok row.file) → file_of (cond b (Some d) (download_from (i + 1) number ds)) ≡ Ok row.file
+      → (x : Download) × (download_from (i + 1) number ds ≡ Some x) × (row ≡ download_row n number x))
+      → (x : Download) × (cond b (Some d) (download_from (i + 1) number ds) ≡ Some x) × (row ≡ download_row n number x)
   go true o w more = either (first_or_rest (download_row n i d) row (filter (has_own_number number) (rows_of_downloads n (i + 1) ds)) w) where
     none : filter (has_own_number number) (rows_of_downloads n (i + 1) ds) ≡ []
     none = let f = eq_true i number o in later_rows n (i + 1) number ds (omega (arith, f))
 
     either : (download_row n i d ≡ row) ⊎ Contains (filter (has_own_number number) (rows_of_downloads n (i + 1) ds)) row
-        → file_of (Some d) ≡ Ok row.file
-    either (inl f) = ap (λ (r : DownloadRow). Ok r.file) f
+        → (x : Download) × (Some d ≡ Some x) × (row ≡ download_row n number x)
+    either (inl f) = (d, refl, sym f ∙ ap (λ (k : ℕ). download_row n k d) (eq_true i number o))
     either (inr f) = absurd (none_there row (subst (λ (rows : List DownloadRow). Contains rows row) none f))
   go false o w more = more w
 
@@ -99,12 +100,20 @@ download_none t s n number d h k =
     let rows = numbered_rows t s n number d h k in
     (λ e. rows_none n 1 number d.downloads (sym rows ∙ e), λ e. rows ∙ none_rows n 1 number d.downloads e)
 
+-- a row with the number is that of the driver's download
+pub download_at : (t : Tables) (s : State) (n number : ℕ) (d : Driver) (row : DownloadRow) → TablesRepresent t s → driver_of n s ≡ Some d
+    → Contains (filter (is_download n number) t.downloads) row
+    → (x : Download) × (download_from 1 number d.downloads ≡ Some x) × (row ≡ download_row n number x)
+download_at t s n number d row h k w = row_is n 1 number d.downloads row
+    (subst (λ (rows : List DownloadRow). Contains rows row) (numbered_rows t s n number d h k) w)
+
 -- a row with the number has the file of the driver's download
 pub download_some : (t : Tables) (s : State) (n number : ℕ) (d : Driver) (row : DownloadRow) → TablesRepresent t s → driver_of n s ≡ Some d
     → Contains (filter (is_download n number) t.downloads) row
     → file_of (download_from 1 number d.downloads) ≡ Ok row.file
-download_some t s n number d row h k w = row_file n 1 number d.downloads row
-    (subst (λ (rows : List DownloadRow). Contains rows row) (numbered_rows t s n number d h k) w)
+download_some t s n number d row h k w =
+    let it = download_at t s n number d row h k w in
+    ap file_of it.1 ∙ ap (λ (r : DownloadRow). Ok r.file) (sym it.2)
 
 -- ---- a download is added
 

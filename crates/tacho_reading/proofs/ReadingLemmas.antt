@@ -1,13 +1,13 @@
 -- What readings answer, from what look-ups find.
 use Rattle.std.proofs.Common.{◌≡◌, ◌∙◌, ℕ, List, [], filter, Option, Some, None, Result, Ok, Err, refl, sym, ap}
-use Rattle.std.specs.Prelude.{MatchOption, Contains, ok_or}
+use Rattle.std.specs.Prelude.{MatchOption, Contains}
 use Rattle.sqlite.specs.Tree.{Trees}
 use Rattle.tacho_state.specs.declared.fault.StoreFault.{StoreFault}
 use Rattle.tacho_state.specs.declared.fault.StoreFault.TheVariants.{UnknownDriver, UnknownDownload}
 use Rattle.tacho_state.specs.State.{Driver, State, driver_of, driver_with_key, download_from}
 use Rattle.tacho_state.specs.Steps.{reading_of, owner, file_of, file_reading}
-use Rattle.tacho_state.specs.Acts.{Answers}
 use Rattle.tacho_tables.specs.Rows.{DownloadRow}
+use Rattle.tacho_tables.specs.declared.rows.StoredFile.{StoredFile}
 use Rattle.tacho_tables.specs.Tables.{Tables, HasTables, is_download}
 use Rattle.tacho_reading.specs.Standing.{Represents}
 use Rattle.tacho_reading.proofs.DownloadLemmas.{download_none, download_some}
@@ -24,14 +24,13 @@ owner_told key s None none = rw none refl
 owner_told key s (Some n) (d, is, number) = rw (is, number) refl
 
 -- S10, or the bytes of the file
-pub file_told : {X : Type 0} (items : X → List ℕ) (db : Trees) (n number : ℕ) (s : State) (found : Option X) (d : Driver)
-    → driver_of n s ≡ Some d → Represents db s
+pub file_told : (db : Trees) (n number : ℕ) (s : State) (found : Option StoredFile) (d : Driver) → driver_of n s ≡ Some d → Represents db s
     → ((a : Tables) → HasTables db a → MatchOption found (filter (is_download n number) a.downloads ≡ [])
-    (λ x. (r : DownloadRow) × Contains (filter (is_download n number) a.downloads) r × (items x ≡ r.file)))
-    → Answers items (ok_or found UnknownDownload) (file_reading n number s)
+    (λ it. (r : DownloadRow) × Contains (filter (is_download n number) a.downloads) r × (it.part ≡ r.part) × (it.file.items ≡ r.file)))
+    → MatchOption found (file_reading n number s ≡ Err UnknownDownload) (λ it. file_reading n number s ≡ Ok it.file.items)
 unfolding Represents
-file_told items db n number s None d is (t, stand, of) h = rw (is, (download_none t s n number d of is).0 (h t stand)) refl
-file_told items db n number s (Some x) d is (t, stand, of) h =
+file_told db n number s None d is (t, stand, of) h = rw (is, (download_none t s n number d of is).0 (h t stand)) refl
+file_told db n number s (Some it) d is (t, stand, of) h =
     let row = h t stand in
     ap (reading_of (λ (d : Driver). file_of (download_from 1 number d.downloads))) is ∙ download_some t s n number d row.0 of is row.1
-    ∙ ap Ok (sym row.2)
+    ∙ ap Ok (sym row.3)

@@ -126,8 +126,11 @@ fn download_in<S: Alter>(
         (λ _ s. Answers (λ bytes. bytes.items) result (file_reading driver number s)) }
 {
     driver_with(tx, driver)?;
-    let file = downloads::file(tx, driver, number).map_err(store_fault)?;
-    file.ok_or(StoreFault::UnknownDownload)
+    let found = downloads::file(tx, driver, number).map_err(store_fault)?;
+    let Some(stored) = found else {
+        return Err(StoreFault::UnknownDownload);
+    };
+    Ok(stored.file)
 }
 
 /// Reads the bytes of a driver's download: S4, S10.

@@ -50,7 +50,7 @@ download_test : (driver number : ℕ) (v : Value) (x : DownloadRow)
 download_test driver number v x = rw (eq_test x.driver driver, eq_test x.number number)
     (ap (λ b. (x.driver == driver) && b) (and-true (x.number == number)))
 
--- the reading of a file shows the files of the downloads with this number
+-- the reading of a file shows the parts and files of the downloads with this number
 pub shows_file : (old new : State) (driver number : ℕ) (rows : List Row) → IsArchive old.now
     → Shown file_text (Int (pos driver) ∷ Int (pos number) ∷ []) old new rows
     → (all : List DownloadRow) → AreRowsOf download_columns (old.now.trees 4) all
@@ -58,7 +58,7 @@ pub shows_file : (old new : State) (driver number : ℕ) (rows : List Row) → I
 shows_file old new driver number rows is h all s =
     let db = old.now.trees in
     let params = Int (pos driver) ∷ Int (pos number) ∷ [] in
-    let shown = col 1 4 ∷ [] in
+    let shown = col 1 3 ∷ col 1 4 ∷ [] in
     let it = file_is is.layout in
     let got = reads_as file_text params old new (archive_schema is.layout) is.schema _ it.meant it.plain it.unlisted rows h in
     let l = listed 4 numbered shown [] (overlay db []) params rows (got.answer Null) in

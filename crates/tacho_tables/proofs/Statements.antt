@@ -179,9 +179,9 @@ held_delete_is Carried = record { meant = refl; plain = (refl, refl) }
 abbrev pub download_insert_text : List ℕ
 download_insert_text = codes "INSERT INTO downloads (driver, number, part, file) VALUES (?1, ?2, ?3, ?4)"
 
--- the SQL that reads a file
+-- the SQL that reads a file and its part
 abbrev pub file_text : List ℕ
-file_text = codes "SELECT file FROM downloads WHERE driver = ?1 AND number = ?2"
+file_text = codes "SELECT part, file FROM downloads WHERE driver = ?1 AND number = ?2"
 
 -- the statement that `download_insert_text` is
 pub download_insert_is : (layout : Layout) → IsStatement (archive_schema layout) download_insert_text (Insert 2 (Values four 5))
@@ -190,7 +190,8 @@ download_insert_is Made = record { meant = refl; plain = (refl, refl) }
 download_insert_is Carried = record { meant = refl; plain = (refl, refl) }
 
 -- the reading that `file_text` is
-pub file_is : (layout : Layout) → IsReading (archive_schema layout) file_text 4 numbered (col 1 4 ∷ []) [] (codes "file" ∷ [])
+pub file_is : (layout : Layout) → IsReading (archive_schema layout) file_text 4 numbered (col 1 3 ∷ col 1 4 ∷ []) []
+    (codes "part" ∷ codes "file" ∷ [])
 unfolding understood everything
 file_is Made = record { meant = refl; unlisted = refl; plain = (refl, refl) }
 file_is Carried = record { meant = refl; unlisted = refl; plain = (refl, refl) }

@@ -138,7 +138,7 @@ entry_shown r = Int (pos r.number) ∷ Int (pos r.start) ∷ Int (pos r.past) �
     ∷ Text r.author ∷ Text r.note ∷ []
 
 abbrev pub file_shown : DownloadRow → Row
-file_shown r = Blob r.file ∷ []
+file_shown r = Int (pos r.part) ∷ Blob r.file ∷ []
 
 -- the download of the driver with this number
 abbrev pub is_download : ℕ → ℕ → DownloadRow → Bool

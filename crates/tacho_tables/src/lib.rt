@@ -14,5 +14,5 @@ pub mod spans;
 mod statement;
 
 pub use fault::TableFault;
-pub use rows::{StoredDriver, StoredEntry, StoredSpan, next_span};
+pub use rows::{StoredDriver, StoredEntry, StoredFile, StoredSpan, next_span};
 pub use spans::SpanTable;

@@ -19,6 +19,13 @@ pub struct StoredSpan {
     pub mark: u32,
 }
 
+/// A card file, and the part that was read from it: 0 both generations, 1 the first, 2 the second.
+#[derive(Debug, Drop)]
+pub struct StoredFile {
+    pub part: u32,
+    pub file: Vec<u8>,
+}
+
 /// Hours entered by hand: their number among the driver's entries, their minutes from `start` to before `past`, the number of the mark, 1
 /// if they are withdrawn (else 0), their author and their note.
 #[derive(Debug, Drop)]
@@ -105,15 +112,26 @@ pub(crate) fn stored_spans(alloc: Global, rows: &[Row]) -> Result<Vec<StoredSpan
     Ok(spans)
 }
 
-/// Returns the file in the first row, if there is one.
-pub(crate) fn first_file(rows: &[Row]) -> Result<Option<Vec<u8>>, TableFault>
+/// Returns the file of a row of part and file.
+fn stored_file(row: &Row) -> Result<StoredFile, TableFault>
+    ensures { IfOk result (λ it. (r : DownloadRow) → row.now ≡ file_shown r
+        → (it.part ≡ r.part) × (it.file.items ≡ r.file)) }
+{
+    Ok(StoredFile {
+        part: row.get(0)?,
+        file: row.get(1)?,
+    })
+}
+
+/// Returns the file of the first such row, if there is one.
+pub(crate) fn first_file(rows: &[Row]) -> Result<Option<StoredFile>, TableFault>
     ensures none { IfOk result (λ found. IsNone found ↔ (rows.now ≡ [])) }
-    ensures some { IfOk result (λ found. IfSome found (λ bytes. (r : DownloadRow) (more : List Values)
-        → rows.now ≡ file_shown r ∷ more → bytes.items ≡ r.file)) }
+    ensures some { IfOk result (λ found. IfSome found (λ it. (r : DownloadRow) (more : List Values)
+        → rows.now ≡ file_shown r ∷ more → (it.part ≡ r.part) × (it.file.items ≡ r.file))) }
 {
     match rows.first() {
         None => Ok(None),
-        Some(row) => Ok(Some(row.get(0)?)),
+        Some(row) => Ok(Some(stored_file(row)?)),
     }
 }
 

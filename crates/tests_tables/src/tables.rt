@@ -7,8 +7,8 @@ use std::process::Abort;
 use std::test::Fail;
 use tacho_tables::entries::NewEntry;
 use tacho_tables::{
-    SpanTable, StoredDriver, StoredEntry, StoredSpan, TableFault, downloads, drivers, entries,
-    held, making, spans,
+    SpanTable, StoredDriver, StoredEntry, StoredFile, StoredSpan, TableFault, downloads, drivers,
+    entries, held, making, spans,
 };
 
 /// Makes a span for a test.
@@ -231,8 +231,8 @@ fn card_spans_and_a_download(rt: HostRuntime) -> Result<(), Fail> {
     assert_same(&rt, first.as_slice(), [span(100, 200, 3)].as_slice());
     downloads::insert(&mut tx, 17, 1, 0, &[1, 2, 3])?;
     downloads::insert(&mut tx, 17, 2, 2, &[4])?;
-    assert!(rt; is_file(downloads::file(&mut tx, 17, 1)?, &[1, 2, 3]));
-    assert!(rt; is_file(downloads::file(&mut tx, 17, 2)?, &[4]));
+    assert!(rt; is_file(downloads::file(&mut tx, 17, 1)?, 0, &[1, 2, 3]));
+    assert!(rt; is_file(downloads::file(&mut tx, 17, 2)?, 2, &[4]));
     assert!(rt; downloads::file(&mut tx, 17, 3)?.is_none());
     assert_same(
         &rt,
@@ -242,11 +242,11 @@ fn card_spans_and_a_download(rt: HostRuntime) -> Result<(), Fail> {
     Ok(())
 }
 
-/// True if there is a file with these bytes.
-fn is_file(found: Option<Vec<u8>>, bytes: &[u8]) -> bool {
+/// True if there is a file with this part and these bytes.
+fn is_file(found: Option<StoredFile>, part: u32, bytes: &[u8]) -> bool {
     match found {
         None => false,
-        Some(file) => file.as_slice() == bytes,
+        Some(stored) => stored.part == part && stored.file.as_slice() == bytes,
     }
 }
 
@@ -290,7 +290,7 @@ fn has_right_file<S: Alter>(tx: &mut Transaction<'_, S>) -> bool
     ensures { tx.new.conn.ghost_name ≡ tx.old.conn.ghost_name }
 {
     match downloads::file(tx, 17, 1) {
-        Ok(found) => is_file(found, &[1, 2, 3]),
+        Ok(found) => is_file(found, 0, &[1, 2, 3]),
         Err(_) => true,
     }
 }

@@ -1,6 +1,4 @@
-use Rattle.std.proofs.Common.{rules, sym, subst}
-use Rattle.tacho_state.specs.Acts.{Answers}
-use Rattle.tacho_state.specs.Steps.{file_reading}
+use Rattle.std.proofs.Common.{rules}
 use Rattle.tacho_reading.proofs.MappedLemmas.{was_ok}
 use Rattle.tacho_reading.proofs.LookUpLemmas.{the_driver, unknown_refuses, handed_on}
 use Rattle.tacho_reading.proofs.SeenLemmas.{still_seen}
@@ -16,6 +14,19 @@ returns-in_err-driver_with g c = record {
       (c.in_err-driver_with.ensures.told clean schema s stands)) c.from_residual.ensures;
 }
 
+pub returns-in_default : goal.returns-in_default
+returns-in_default g c = record {
+  goes = search rules;
+  same = search rules;
+  told = λ clean schema s stands.
+      let clean_1 = c.file.ensures.reads.stays.clean clean in
+      let d = the_driver c.args.driver s _ (c.in_ok-driver_with.ensures.told clean_1 schema s stands) in
+      let seen = still_seen _ _ s (c.in_ok-driver_with.ensures.same clean_1 schema) schema stands in
+      let told = file_told _ c.args.driver c.args.number s c.in_ok-found.found d.0 d.1 seen.1
+      (was_ok c.file.result c.in_ok-found.found _ c.in_ok-found.ensures.cases (c.file.ensures.found clean seen.0)) in
+      rw c.in_default.is at told;
+}
+
 pub returns : goal.returns
 returns g c = record {
   goes = search rules;
@@ -24,13 +35,13 @@ returns g c = record {
       let clean_1 = c.file.ensures.reads.stays.clean clean in
       let d = the_driver c.args.driver s _ (c.in_ok-driver_with.ensures.told clean_1 schema s stands) in
       let seen = still_seen _ _ s (c.in_ok-driver_with.ensures.same clean_1 schema) schema stands in
-      subst (λ r. Answers (λ bytes. bytes.items) r (file_reading c.args.driver c.args.number s)) (sym c.ok_or.ensures.value)
-      (file_told (λ bytes. bytes.items) _ _ _ s c.in_ok-file.file d.0 d.1 seen.1
-      (was_ok c.file.result c.in_ok-file.file _ c.in_ok-file.ensures.cases (c.file.ensures.found clean seen.0)));
+      let told = file_told _ c.args.driver c.args.number s c.in_ok-found.found d.0 d.1 seen.1
+      (was_ok c.file.result c.in_ok-found.found _ c.in_ok-found.ensures.cases (c.file.ensures.found clean seen.0)) in
+      rw c.in-Some.is at told;
 }
 
-pub returns-in_err-file : goal.returns-in_err-file
-returns-in_err-file g c = record {
+pub returns-in_err-found : goal.returns-in_err-found
+returns-in_err-found g c = record {
   goes = record {
     stays = search rules;
     keeps = search rules;
