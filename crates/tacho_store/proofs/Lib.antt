@@ -18,3 +18,4 @@ mod WithdrawalLemmas
 mod EnteringLemmas
 mod CrashLemmas
 mod BatchLemmas
+mod ListingLemmas

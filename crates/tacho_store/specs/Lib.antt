@@ -6,3 +6,4 @@ pub mod Old
 pub mod Opening
 pub mod After
 pub mod Registering
+pub mod Listing

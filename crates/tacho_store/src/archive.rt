@@ -8,6 +8,7 @@ ghost use Rattle.tacho_store.specs.Opening.{Makes, CarriesOver, IsMade, IsUnmade
 use crate::base::rebase;
 use crate::content::content_of;
 use crate::entering::enter;
+use crate::files::files;
 use crate::import::import;
 use crate::registration::register;
 use crate::withdrawal::withdraw;
@@ -21,7 +22,8 @@ use tacho_reading::reading::{
 };
 use tacho_rules::Report;
 use tacho_state::{
-    Caller, Driver, DriverSummary, Entered, Entry, EntryLine, Imported, Keeper, StoreFault,
+    Caller, Driver, DriverSummary, Entered, Entry, EntryLine, FileSummary, Imported, Keeper,
+    StoreFault,
 };
 use tacho_stretches::Stretch;
 use tacho_tables::{making, opening};
@@ -309,6 +311,10 @@ impl<S: Alter> Keeper for Archive<S> {
 
     fn download(&mut self, alloc: Global, driver: u32, number: u32) -> Result<Vec<u8>, StoreFault> {
         download(&mut self.conn, driver, number)
+    }
+
+    fn files(&mut self, alloc: Global, driver: u32) -> Result<Vec<FileSummary>, StoreFault> {
+        files(alloc, &mut self.conn, driver)
     }
 
     fn report(&mut self, alloc: Global, driver: u32) -> Result<Report, StoreFault> {

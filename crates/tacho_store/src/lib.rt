@@ -5,6 +5,7 @@ mod archive;
 mod base;
 mod content;
 mod entering;
+mod files;
 mod import;
 pub mod laws;
 mod news;
