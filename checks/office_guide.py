@@ -20,8 +20,9 @@ import time
 
 from inputs.random_commands import hours_csv
 from lib import counting, old_archive
-from lib.files import EXAMPLES, TOP
+from lib.files import EXAMPLES, TOP, read
 from lib.office_rows import ANNA, CREW_DAY, DAY, HOLDER, OTHER_DAY
+from lib.proxy import OPENED, Proxy
 
 KEY = "office-key-1"
 ROW = re.compile(r"^\| (.*) \|$", re.MULTILINE)
@@ -159,7 +160,7 @@ class Office:
 
     def here(self, text):
         """A text of the page with the machine's folders and the port in this one's place."""
-        for folder in ("/var/lib/", "/var/backups/", "/etc/", "/usr/local/bin/"):
+        for folder in ("/var/lib/", "/var/backups/", "/etc/", "/usr/local/bin/", "/usr/local/share/"):
             text = text.replace(folder, f"{self.root}{folder}")
         return text.replace("8017", str(self.port)).replace(f"{self.root}/dev", "/dev")
 
@@ -545,8 +546,15 @@ def services(office):
     made = os.listdir(os.path.join(root, "var/backups/tacho"))
     copied = [sorted(os.listdir(os.path.join(root, "var/backups/tacho", name))) for name in made]
     yield "what it has copied", copied, [["archive.db", "archive.db-wal"]]
+    yield office.typed("install -d -m 755 /usr/local/share/tacho/driver", "")
+    page = os.path.join(root, "usr/local/share/tacho/driver")
+    installed = {name: (read(os.path.join(page, name)), mode(os.path.join(page, name))) for name in os.listdir(page)}
+    own = os.path.join(EXAMPLES, "driver")
+    yield "the driver's page as it is installed", installed, {name: (read(os.path.join(own, name)), 0o644) for name in os.listdir(own)}
     if all(map(shutil.which, ("nginx", "openssl", "curl"))):
         yield from proxied(office)
+    else:
+        print("left out: the proxy, since nginx, openssl or curl isn't installed: apt install nginx-light openssl curl", flush=True)
     office.type("systemctl stop tacho")
     yield "the sign of life while it is down", office.type(sign)[1], 7
     yield from served_by_hand(office)
@@ -569,53 +577,17 @@ def updated(office):
         (['1 2024-03-09 00:00 2024-03-11 00:00 rest withdrawn "office" ""'], 0)
 
 
-NGINX = """daemon off;
-{user}
-pid {root}/nginx.pid;
-error_log {root}/nginx.log;
-events {{ }}
-http {{
-    access_log off;
-    client_body_temp_path {root}/nginx-body;
-    proxy_temp_path {root}/nginx-proxy;
-    fastcgi_temp_path {root}/nginx-fastcgi;
-    uwsgi_temp_path {root}/nginx-uwsgi;
-    scgi_temp_path {root}/nginx-scgi;
-    include {root}/tacho.conf;
-}}
-"""
-
-
-def proxied(office):
-    """The proxy of examples/nginx.conf, where nginx is installed: drivers' paths go through, and the office's don't; and what it
-    answers by itself. The service is down at the end."""
-    root, port = office.root, free_port()
-    with open(os.path.join(EXAMPLES, "nginx.conf"), encoding="utf-8") as file:
-        text = office.here(file.read()).replace("listen 443", f"listen 127.0.0.1:{port}")
-    os.makedirs(os.path.join(root, "etc", "nginx"))
-    with open(os.path.join(root, "tacho.conf"), "w", encoding="utf-8") as file:
-        file.write(text)
-    with open(os.path.join(root, "nginx.conf"), "w", encoding="utf-8") as file:
-        file.write(NGINX.format(root=root, user="user root;" if os.getuid() == 0 else ""))
-    subprocess.run(["openssl", "req", "-x509", "-newkey", "rsa:2048", "-nodes", "-subj", "/CN=tacho.example.org", "-keyout",
-                    f"{root}/etc/nginx/tacho.key", "-out", f"{root}/etc/nginx/tacho.crt"], check=True, capture_output=True)
-    proxy = subprocess.Popen(["nginx", "-p", root, "-c", f"{root}/nginx.conf"], stderr=subprocess.DEVNULL)
-    try:
-        ask = ["curl", "-sk", "--retry", "20", "--retry-connrefused", "--retry-delay", "1", "-w", "%{http_code}", "-H", "x-key: anna-key-1"]
-        for path, wanted in [("/me/owed", office.told_by_key("/me/owed") + "200"), ("/drivers/17/owed", None)]:
-            told = subprocess.run([*ask, f"https://127.0.0.1:{port}{path}"], capture_output=True).stdout.decode()
-            yield f"{path} by the proxy", told if wanted else told[-3:], wanted or "404"
-        given = [*ask, "--data-binary", f"@{office.path('anna.ddd')}", f"https://127.0.0.1:{port}/me/cards/both"]
-        yield "a file by the proxy", subprocess.run(given, capture_output=True).stdout, b"repeated driver 17\n200"
-
-        def status(*options):
-            run = subprocess.run(["curl", "-sk", "-o", "/dev/null", "-w", "%{http_code}", *options], capture_output=True)
-            return run.stdout.decode()
-
-        owed = f"https://127.0.0.1:{port}/me/owed"
-        office.write("large.ddd", bytes(262_145))
-        yield "without a key by the proxy", status(owed), "403"
-        yield "a file that is too large", status("--data-binary", f"@{office.path('large.ddd')}", owed.replace("owed", "cards/both")), "413"
+def proxied(office: Office) -> counting.Comparisons:
+    """The proxy of examples/nginx.conf, where nginx is installed: drivers' paths go through, the office's don't, and files of drivers
+    only once uploads are open; the driver's page as it was installed; and what the proxy answers by itself. The service is down at the
+    end."""
+    page = os.path.join(office.root, "usr/local/share/tacho/driver")
+    with Proxy(os.path.join(office.root, "shut"), free_port(), office.port, page=page) as proxy:
+        yield from by_proxy(office, f"https://127.0.0.1:{proxy.port}", "with uploads shut", b"405")
+    with Proxy(os.path.join(office.root, "open"), free_port(), office.port, [OPENED], page) as proxy:
+        address = f"https://127.0.0.1:{proxy.port}"
+        yield from by_proxy(office, address, "with uploads open", b"repeated driver 17\n200")
+        owed = f"{address}/me/owed"
         told = [status("-H", "x-key: anna-key-1", owed) for _ in range(60)]
         yield "who asks too often", (told[0], sorted({*told})), ("200", ["200", "429"])
         office.type("systemctl stop tacho")
@@ -624,9 +596,27 @@ def proxied(office):
             time.sleep(0.5)
             told = status(owed)
         yield "the proxy while the service is down", told, "502"
-    finally:
-        proxy.terminate()
-        proxy.wait()
+
+
+def status(*options: str) -> str:
+    """The status of the reply to a request."""
+    run = subprocess.run(["curl", "-sk", "-o", "/dev/null", "-w", "%{http_code}", *options], capture_output=True)
+    return run.stdout.decode()
+
+
+def by_proxy(office: Office, address: str, name: str, taken: bytes) -> counting.Comparisons:
+    """Requests to a proxy. `taken` is the end of what it replies to a card file, and the status."""
+    ask = ["curl", "-sk", "--retry", "20", "--retry-connrefused", "--retry-delay", "1", "-w", "%{http_code}", "-H", "x-key: anna-key-1"]
+    for path, wanted in [("/me/owed", office.told_by_key("/me/owed") + "200"), ("/drivers/17/owed", None)]:
+        told = subprocess.run([*ask, f"{address}{path}"], capture_output=True).stdout.decode()
+        yield f"{path} by the proxy {name}", told if wanted else told[-3:], wanted or "404"
+    office.write("large.ddd", bytes(262_145))
+    for file, wanted in [("anna.ddd", taken), ("large.ddd", b"413")]:
+        told = subprocess.run([*ask, "--data-binary", f"@{office.path(file)}", f"{address}/me/cards/both"], capture_output=True).stdout
+        yield f"{file} by the proxy {name}", told[-len(wanted):], wanted
+    yield f"without a key by the proxy {name}", status(f"{address}/me/owed"), "403"
+    yield f"the driver's page by the proxy {name}", \
+        subprocess.run(["curl", "-sk", f"{address}/driver/"], capture_output=True).stdout, read(os.path.join(EXAMPLES, "driver", "index.html"))
 
 
 def unit_commands(office, name):
