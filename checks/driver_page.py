@@ -263,6 +263,7 @@ class Month:
         others = [month for month in months if month != self.month]
 
         def counted(count: int) -> str:
+            """A number of breaches."""
             return said["breach"] if count == 1 else said["breaches"].format(count)
 
         if not others:
@@ -366,6 +367,13 @@ SHOWN = """(() => {
     };
 })()"""
 
+
+
+def plain(value: Any) -> Any:
+    """A value of the page with usual blanks in its texts, in place of those at which no line ends."""
+    return json.loads(json.dumps(value, ensure_ascii=False).replace("\u00a0", " "))
+
+
 # Whether the page shows a month, or says what is wrong, and no longer asks.
 IS_DONE = """document.querySelector("#message") !== null && document.querySelector("#busy").textContent.indexOf("…") < 0
     && (!document.querySelector("#hours").hidden || document.querySelector("#message").textContent !== "")"""
@@ -403,16 +411,24 @@ CONTRASTS = """(() => {
     return { low, isEnough: count > 5 };
 })()"""
 
-# The pairs of texts in the chart that hide each other, and the bars that aren't drawn where their minutes are.
+# The pairs of texts in the chart that hide each other or touch, and the bars that aren't drawn where their minutes are.
 MISPLACED = """(() => {
     const found = [];
-    for (const day of document.querySelectorAll("#chart .day")) {
-        const texts = [...day.querySelectorAll("span")].map((one) => [one.textContent, one.getBoundingClientRect()]);
+    const place = (one) => {
+        const range = document.createRange();
+        range.selectNodeContents(one);
+        return range.getBoundingClientRect();
+    };
+    for (const day of document.querySelectorAll("#chart .hours, #chart .day")) {
+        const texts = [...day.querySelectorAll("span")].map((one) => [one.textContent, place(one)]);
         texts.forEach(([text, box], number) => texts.slice(number + 1).forEach(([other, next]) => {
-            if (box.left < next.right - 0.5 && next.left < box.right - 0.5 && box.top < next.bottom - 0.5 && next.top < box.bottom - 0.5) {
+            if (box.left < next.right + 2 && next.left < box.right + 2 && box.top < next.bottom - 0.5 && next.top < box.bottom - 0.5) {
                 found.push([text, other]);
             }
         }));
+        if (day.className === "hours") {
+            continue;
+        }
         const whole = day.querySelector(".back").getBoundingClientRect();
         for (const [text, box] of texts) {
             if (box.left < whole.right && whole.left < box.right && box.top < whole.bottom - 1 && whole.top + 1 < box.bottom) {
@@ -664,7 +680,7 @@ def wrong_keys(page: Page) -> Comparisons:
 
 def month_comparisons(name: str, page: Page, month: Month, language: str) -> Comparisons:
     """What stands on the page of a month, part by part."""
-    shown = page.run(SHOWN)
+    shown = plain(page.run(SHOWN))
     yield f"{name}: heading", shown["heading"], month.heading(language)
     yield f"{name}: breaches", shown["breaches"], month.breach_texts(language)
     yield f"{name}: breaches of other months", shown["others"], month.other_texts(language)
@@ -860,19 +876,42 @@ def faults(page: Page, address: str) -> Comparisons:
         yield f"a reply of {status} {body.strip()}", (page.run(MESSAGE), page.run(HAS_DATA), page.run(FORMS)), (wanted, False, ["choose"])
         page.run("window.fetch = window.kept; null")
         show(page, "2024-03")
-    page.run("""window.fetch = async (...given) => {
-        const reply = await window.kept(...given);
-        await new Promise((done) => { window.goOn = done; });
-        return reply;
-    }; document.querySelector("#choose").requestSubmit(); null""")
-    page.until("window.goOn !== undefined")
-    before = len(page.events("Network.requestWillBeSent"))
-    page.run("""document.querySelector("#log-out").click(); window.goOn(); new Promise((done) => setTimeout(done, 300)).then(() => null)""")
-    yield "a reply after the log-out", (page.run(HAS_DATA), page.run(KEPT)[0]), (False, [])
-    yield "requests after the log-out", len(page.events("Network.requestWillBeSent")) - before, 0
+    for name, changed, wanted in [("once", 1, ["Anna Berg, March 2024", ""]), ("always", 100, ["", FAULTS[-2][2]])]:
+        page.run(f"""window.left = {changed}; window.fetch = async (path, ...others) => {{
+            const reply = await window.kept(path, ...others);
+            window.left -= path === "/me/breaches" ? 1 : 0;
+            return path !== "/me/breaches" || window.left < 0 ? reply
+                : new Response("EXAMINED TO 2024-03-04 16:59 unknown\\n", {{ headers: {{ "content-type": "text/plain" }} }});
+        }}; document.querySelector("#who").textContent = ""; document.querySelector("#choose").requestSubmit(); null""")
+        page.until(f"""{IS_DONE} && (window.left < 0 || window.left === 97)""")
+        told = page.run(f"""[document.querySelector("#who").textContent, {MESSAGE}]""")
+        yield f"a sheet and breaches that differ {name}", told, wanted
+        page.run("window.fetch = window.kept; null")
+        show(page, "2024-03")
+    for path in ("/me/sheet/2024-03", "/me/owed"):
+        page.run(f"""window.goOn = undefined; window.fetch = async (path, ...others) => {{
+            const reply = await window.kept(path, ...others);
+            if (path === "{path}") {{
+                await new Promise((done) => {{ window.goOn = done; }});
+            }}
+            return reply;
+        }}; document.querySelector("#choose").requestSubmit(); null""")
+        page.until("window.goOn !== undefined")
+        wait = "new Promise((done) => setTimeout(done, 300)).then(() => null)"
+        page.run(wait)
+        before = len(page.events("Network.requestWillBeSent"))
+        page.run(f"""document.querySelector("#log-out").click(); window.goOn(); {wait}""")
+        yield f"the reply to {path} after the log-out", (page.run(HAS_DATA), page.run(KEPT)[0], page.run(MESSAGE)), (False, [], "")
+        yield f"requests after the log-out before {path}", len(page.events("Network.requestWillBeSent")) - before, 0
+        page.run("window.fetch = window.kept; null")
+        sign_in(page, "anna-key-1")
+    click(page, "#log-out")
 
 
 RESULTS = """[...document.querySelectorAll("#results li")].map((one) => [...one.children].map((child) => child.textContent))"""
+
+# The card file of the day after that of SATURDAY.
+SUNDAY = office_rows.SATURDAY.replace(bytes.fromhex("65eba680"), bytes.fromhex("65ecf800"))
 
 # The files that a driver sends: the bytes, and what the page says of each, with the program's line.
 SENT = {
@@ -927,10 +966,14 @@ def uploads(site: Site, page: Page, address: str) -> Comparisons:
     page.choose_files("#file", [os.path.join(folder, name) for name in others])
     found += [wanted[name] for name in others]
     yield "the other files by the field", wait_for_results(page, len(found)), found
-    for name in ("day.ddd", "cut.ddd", "saturday.ddd"):
+    write(os.path.join(folder, "sunday.ddd"), SUNDAY)
+    wanted["sunday.ddd"] = ["sunday.ddd was added: it is your file number 3.", "added driver 17 number 3"]
+    for name in ("day.ddd", "cut.ddd", "sunday.ddd"):
         page.drop_files("#drop", [os.path.join(folder, name)])
-        found.append(wanted[name] if name != first else [f"{name} has nothing new. The archive already had all of it.", "repeated driver 17"])
+        found.append(wanted[name])
         yield f"{name} by drag", wait_for_results(page, len(found)), found
+    page.until("""document.querySelector("#day-2024-03-10 rect.bar") !== null""")
+    yield from month_comparisons("after an upload by drag", page, site.month("anna-key-1", "2024-03"), "en")
     page.drop_files("#who", [os.path.join(folder, "day.ddd")])
     yield "a file that is dropped elsewhere", (wait_for_results(page, len(found)), page.run("location.pathname")), (found, "/driver/")
     yield "markup from a file's name", page.run("""document.querySelectorAll("#results img").length"""), 0
@@ -991,7 +1034,8 @@ def pages(site: Site, pictures: str) -> Comparisons:
         yield from sentence_limits(page)
         yield from months(site, page)
         click(page, "#log-out")
-        for key, month in [("rules-key-13", "2024-03"), ("anna-key-1", "2024-03"), ("crew-key-1", "2024-03"), ("shorter-key-1", "2023-02"), ("rules-key-9", "2024-03")]:
+        for key, month in [("rules-key-13", "2024-03"), ("anna-key-1", "2024-03"), ("crew-key-1", "2024-03"),
+                           ("shorter-key-1", "2023-02"), ("rules-key-9", "2024-03")]:
             sign_in(page, key)
             show(page, month)
             yield from widths(page, f"{key}-{month}", pictures)

@@ -9,6 +9,23 @@ const DAY = 1440;
 const LARGEST_FILE = 262144;
 const MONTH = /^20\d\d-(0[1-9]|1[0-2])$/;
 const KEY_FORM = /^[A-Za-z0-9-]{8,64}$/;
+const TRIES = 3;
+
+/** A minute in a line, as a part of a regular expression. */
+const AT = String.raw`(\d{4}-\d\d-\d\d \d\d:\d\d)`;
+
+/** The forms of the lines. */
+const FORMS = {
+  breach: new RegExp(String.raw`^(B[1-9]|B10) Art (\S+) at ${AT} since ${AT} amount (\d+)$`),
+  horizon: new RegExp(`^EXAMINED TO ${AT} (unknown|crew)$`),
+  driver: /^DRIVER \d+ (.+)$/,
+  day: /^(\d{4}-\d\d-\d\d) [A-Z][a-z]{2}((?: +\d+:\d\d){6})$/,
+  total: /^TOTAL((?: +\d+:\d\d){6})$/,
+  spanHead: /^start,past,activity,manning$/,
+  span: new RegExp(`^${AT},${AT},(rest|available|work|drive),(single|crew)$`),
+  gap: new RegExp(`^${AT} ${AT}$`),
+  debt: new RegExp(String.raw`^WEEK (\d{4}-\d\d-\d\d) owes (\d+) by ${AT} (?:(open|late)|paid ${AT})$`),
+};
 
 /** The heights of the bars, of 24: they tell the activities apart without colours. */
 const HEIGHTS = { rest: 6, available: 11, work: 16, drive: 24 };
@@ -230,8 +247,7 @@ function partsOf(form, line) {
  * @returns {{kind: string, article: string, at: number, since: number, amount: number}}
  */
 function breachOf(line) {
-  const form = /^(B[1-9]|B10) Art (\S+) at (.{16}) since (.{16}) amount (\d+)$/;
-  const [kind, article, at, since, amount] = partsOf(form, line);
+  const [kind, article, at, since, amount] = partsOf(FORMS.breach, line);
   return { kind, article, at: minuteOf(at), since: minuteOf(since), amount: Number(amount) };
 }
 
@@ -241,7 +257,7 @@ function breachOf(line) {
  * @returns {{minute: number, cause: string}}
  */
 function horizonOf(line) {
-  const [minute, cause] = partsOf(/^EXAMINED TO (.{16}) (unknown|crew)$/, line);
+  const [minute, cause] = partsOf(FORMS.horizon, line);
   return { minute: minuteOf(minute), cause };
 }
 
@@ -262,13 +278,13 @@ function readReport(text) {
  */
 function readSheet(text) {
   const lines = linesOf(text);
-  const [name] = partsOf(/^DRIVER \d+ (.+)$/, lines[0]);
+  const [name] = partsOf(FORMS.driver, lines[0]);
   const past = lines.findIndex((line) => line.startsWith("TOTAL "));
   const days = lines.slice(3, Math.max(past, 3)).map((line) => {
-    const [date, columns] = partsOf(/^(\d{4}-\d\d-\d\d) [A-Z][a-z]{2}((?: +\d+:\d\d){6})$/, line);
+    const [date, columns] = partsOf(FORMS.day, line);
     return { start: minuteOf(date), columns: columns.trim().split(/ +/) };
   });
-  const [columns] = partsOf(/^TOTAL((?: +\d+:\d\d){6})$/, lines[past]);
+  const [columns] = partsOf(FORMS.total, lines[past]);
   const report = readReport(lines.slice(past + 1).map((line) => `${line}\n`).join(""));
   return { name, days, total: columns.trim().split(/ +/), ...report };
 }
@@ -280,9 +296,9 @@ function readSheet(text) {
  */
 function readSpans(text) {
   const [head, ...rows] = linesOf(text);
-  partsOf(/^start,past,activity,manning$/, head);
+  partsOf(FORMS.spanHead, head);
   return rows.map((row) => {
-    const [start, past, activity, manning] = partsOf(/^(.{16}),(.{16}),(rest|available|work|drive),(single|crew)$/, row);
+    const [start, past, activity, manning] = partsOf(FORMS.span, row);
     return { start: minuteOf(start), past: minuteOf(past), activity, isCrew: manning === "crew" };
   });
 }
@@ -294,7 +310,7 @@ function readSpans(text) {
  */
 function readGaps(text) {
   return linesOf(text).map((line) => {
-    const [start, past] = partsOf(/^(.{16}) (.{16})$/, line).map(minuteOf);
+    const [start, past] = partsOf(FORMS.gap, line).map(minuteOf);
     return { start, past };
   });
 }
@@ -302,13 +318,13 @@ function readGaps(text) {
 /**
  * The debts of the reply to `/me/owed`.
  * @param {string} text
- * @returns {Array<{week: string, amount: number, by: number, end: string, at: number|null}>}
+ * @returns {Array<{week: string, amount: number, by: number, end: string, at: number|null}>} `end` is open, late or paid
  */
 function readOwed(text) {
   const lines = linesOf(text);
   horizonOf(lines.pop());
   return lines.map((line) => {
-    const [week, amount, by, end, at] = partsOf(/^WEEK (.{10}) owes (\d+) by (.{16}) (open|late|paid)(?: (.{16}))?$/, line);
+    const [week, amount, by, end = "paid", at] = partsOf(FORMS.debt, line);
     return { week, amount: Number(amount), by: minuteOf(by), end, at: at === undefined ? null : minuteOf(at) };
   });
 }
@@ -360,30 +376,52 @@ async function reading(path, key, signal) {
 }
 
 /**
- * All that the page shows of a month. The sheet comes first, so that a wrong key is sent once.
+ * Whether a sheet and a report are of the same archive.
+ * @param {string} month the sheet's
+ * @param {object} sheet
+ * @param {object} report
+ * @returns {boolean}
+ */
+function agree(month, sheet, report) {
+  const breaches = report.breaches.filter((breach) => monthOf(breach.at) === month);
+  return JSON.stringify([sheet.horizon, sheet.breaches]) === JSON.stringify([report.horizon, breaches]);
+}
+
+/**
+ * All that the page shows of a month. The sheet comes first, so that a wrong key is sent once. The archive may change between two replies:
+ * then it is asked again.
  * @param {string} month
  * @param {string} key
  * @param {AbortSignal} signal
  * @returns {Promise<object>}
  */
 async function repliesOf(month, key, signal) {
-  const sheet = readSheet(await reading(`/me/sheet/${month}`, key, signal));
   const paths = [`/me/spans/${month}`, `/me/gaps/${month}`, "/me/breaches", "/me/owed"];
-  const [spans, gaps, report, owed] = await Promise.all(paths.map((path) => reading(path, key, signal)));
-  return { month, sheet, spans: readSpans(spans), gaps: readGaps(gaps), report: readReport(report), owed: readOwed(owed) };
+  for (let tries = 0; tries < TRIES; tries += 1) {
+    const sheet = readSheet(await reading(`/me/sheet/${month}`, key, signal));
+    const [spans, gaps, breaches, owed] = await Promise.all(paths.map((path) => reading(path, key, signal)));
+    const report = readReport(breaches);
+    if (agree(month, sheet, report)) {
+      return { month, sheet, spans: readSpans(spans), gaps: readGaps(gaps), report, owed: readOwed(owed) };
+    }
+  }
+  throw new Problem((say) => say.unreadable);
 }
 
 /** Asks whether drivers may send card files: /driver/uploads says so. */
 async function askUploads() {
   const session = state.session;
+  let isOpen = false;
   try {
     const reply = await fetch("uploads", { cache: "no-store" });
-    const isOpen = reply.ok && (await reply.text()).trim() === "open";
-    state.uploads = isOpen && session === state.session;
+    isOpen = reply.ok && (await reply.text()).trim() === "open";
   } catch {
-    state.uploads = false;
+    // Without a connection there are no uploads either.
   }
-  render();
+  if (session === state.session) {
+    state.uploads = isOpen;
+    render();
+  }
 }
 
 /**
@@ -422,13 +460,31 @@ async function showMonth() {
 // What the page shows
 
 /**
+ * A sentence whose durations, such as '4 h 50', no end of a line divides.
+ * @param {string} text
+ * @returns {string}
+ */
+function undivided(text) {
+  return text.replace(/(\d) h\b/g, "$1\u00a0h").replace(/(\d\u00a0h) (\d\d)\b/g, "$1\u00a0$2");
+}
+
+/**
  * A paragraph.
  * @param {string} text
  * @param {string} kind its class
  * @returns {HTMLElement}
  */
 function paragraph(text, kind = "") {
-  return element("p", kind ? { class: kind } : {}, text);
+  return element("p", kind ? { class: kind } : {}, undivided(text));
+}
+
+/**
+ * An item of a list.
+ * @param {string} text
+ * @returns {HTMLElement}
+ */
+function item(text) {
+  return element("li", {}, undivided(text));
 }
 
 /**
@@ -621,10 +677,10 @@ function owedList({ owed }) {
   const paid = owed.filter((debt) => debt.end === "paid");
   const shown = left.length === 0 ? [paragraph(say.nothingOwed)] : [element("ul", {}, ...left.map((debt) => {
     const sentence = debt.end === "open" ? say.owes : say.owesLate;
-    return element("li", {}, sentence(dayText(debt.week), debt.amount, moment(debt.by)));
+    return item(sentence(dayText(debt.week), debt.amount, moment(debt.by)));
   }))];
   if (paid.length > 0) {
-    const items = paid.map((debt) => element("li", {}, say.owesPaid(dayText(debt.week), debt.amount, moment(debt.at))));
+    const items = paid.map((debt) => item(say.owesPaid(dayText(debt.week), debt.amount, moment(debt.at))));
     shown.push(element("details", {}, element("summary", {}, say.paid(paid.length)), element("ul", {}, ...items)));
   }
   return shown;
@@ -638,7 +694,7 @@ function owedList({ owed }) {
 function gapList({ gaps }) {
   const say = state.say;
   return gaps.length === 0 ? paragraph(say.noGap)
-    : element("ul", {}, ...gaps.map((gap) => element("li", {}, say.from(moment(gap.start), moment(gap.past)))));
+    : element("ul", {}, ...gaps.map((gap) => item(say.from(moment(gap.start), moment(gap.past)))));
 }
 
 /**
@@ -658,19 +714,38 @@ function dayTable({ sheet }) {
 }
 
 /**
- * The results of the files that were sent.
- * @returns {HTMLElement[]}
+ * Gives an element a text. Where it has that text already it is left alone, so that a screen reader doesn't say it again.
+ * @param {string} id
+ * @param {string} text
  */
-function resultList() {
-  return state.results.map(({ sentence, line }) => element("li", {}, paragraph(sentence(state.say)),
-    ...(line ? [element("p", { class: "note" }, element("code", {}, line))] : [])));
+function tell(id, text) {
+  if ($(id).textContent !== text) {
+    $(id).textContent = text;
+  }
+}
+
+/** Shows what became of the files that were sent. An item that stays the same is left alone, for the same reason. */
+function renderResults() {
+  const list = $("results");
+  while (list.children.length > state.results.length) {
+    list.lastElementChild.remove();
+  }
+  state.results.forEach(({ sentence, line }, number) => {
+    const made = element("li", {}, paragraph(sentence(state.say)),
+      ...(line ? [element("p", { class: "note" }, element("code", {}, line))] : []));
+    const shown = list.children[number];
+    if (shown === undefined) {
+      list.append(made);
+    } else if (shown.textContent !== made.textContent) {
+      shown.replaceWith(made);
+    }
+  });
 }
 
 /** Shows the month. Without one, removes all that the page has of a driver. */
 function renderMonth() {
   const { replies, say } = state;
   const parts = replies === null ? {} : {
-    who: [`${replies.sheet.name}, ${monthText(replies.month)}`],
     times: [say.times(LOCAL.resolvedOptions().timeZone)],
     "not-examined": notExamined(replies),
     breaches: [breachList(replies)],
@@ -682,9 +757,10 @@ function renderMonth() {
     gaps: [gapList(replies)],
     days: [dayTable(replies)],
   };
-  for (const id of ["who", "times", "not-examined", "breaches", "others", "offset", "chart", "legend", "owed", "gaps", "days"]) {
+  for (const id of ["times", "not-examined", "breaches", "others", "offset", "chart", "legend", "owed", "gaps", "days"]) {
     $(id).replaceChildren(...(parts[id] ?? []));
   }
+  tell("who", replies === null ? "" : `${replies.sheet.name}, ${monthText(replies.month)}`);
   $("hours").hidden = replies === null;
   document.title = replies === null ? say.title : say.titleOf(monthText(replies.month));
 }
@@ -699,9 +775,9 @@ function render() {
   $("sign-in").hidden = isIn;
   $("choose").hidden = !isIn;
   $("upload").hidden = !(isIn && state.uploads);
-  $("busy").textContent = state.asking !== null ? say.busy : state.note === null ? "" : state.note(say);
-  $("message").textContent = state.problem === null ? "" : state.problem(say);
-  $("results").replaceChildren(...resultList());
+  tell("busy", state.asking !== null ? say.busy : state.note === null ? "" : state.note(say));
+  tell("message", state.problem === null ? "" : state.problem(say));
+  renderResults();
   renderMonth();
 }
 
