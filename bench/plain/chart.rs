@@ -37,6 +37,7 @@ const STYLE: &str = "</title>
 .rest{fill:#8fb8de}.available{fill:#c9b3e0}.work{fill:#f0a030}.drive{fill:#1f4e79}\
 .crew{fill-opacity:.45;stroke:#222;stroke-dasharray:4 3}.unseen{fill:#555;fill-opacity:.16}\
 .breach path,.mark{fill:#c00000;stroke:#fff;stroke-width:2}.code{fill:#c00000;font-weight:bold;font-size:15px}</style>
+<rect width=\"100%\" height=\"100%\" fill=\"#fff\"/>
 <text x=\"20\" y=\"40\" font-size=\"28\">";
 const HOURS: &str = "</text>
 <g class=\"right\"><text x=\"176\" y=\"88\">UTC</text><text x=\"1730\" y=\"88\">driven</text></g>
@@ -57,7 +58,7 @@ const LEGEND: &str = ")\">
 <rect class=\"drive crew\" x=\"700\" y=\"4\" width=\"40\" height=\"28\"/><text x=\"750\" y=\"32\">second driver</text>
 <rect class=\"back\" x=\"930\" y=\"4\" width=\"40\" height=\"28\"/><text x=\"980\" y=\"32\">not known</text>
 <rect class=\"unseen\" x=\"1120\" y=\"0\" width=\"40\" height=\"36\"/><text x=\"1170\" y=\"32\">not examined</text>
-<path class=\"mark\" d=\"M1340 0h6v36h-6z\"/><text x=\"1350\" y=\"32\">breach</text>
+<path class=\"mark\" d=\"M1340 0h6v36h-6z\"/><text x=\"1360\" y=\"32\">breach</text>
 </g>
 </svg>\n";
 

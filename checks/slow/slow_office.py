@@ -310,6 +310,7 @@ CHART_STYLE = (
     ".rest{fill:#8fb8de}.available{fill:#c9b3e0}.work{fill:#f0a030}.drive{fill:#1f4e79}"
     ".crew{fill-opacity:.45;stroke:#222;stroke-dasharray:4 3}.unseen{fill:#555;fill-opacity:.16}"
     ".breach path,.mark{fill:#c00000;stroke:#fff;stroke-width:2}.code{fill:#c00000;font-weight:bold;font-size:15px}</style>\n"
+    '<rect width="100%" height="100%" fill="#fff"/>\n'
 )
 BAR_HEIGHTS = {"rest": 6, "available": 12, "work": 20, "drive": 28}
 LEGEND = [
@@ -388,7 +389,7 @@ def chart_text(driver: slow_archive.Driver, month: Month) -> str:
         '<g class="right"><text x="176" y="88">UTC</text><text x="1730" y="88">driven</text></g>\n'
         f'<g class="middle">{hours}</g>\n{groups}'
         f'<g transform="translate(200 {112 + 36 * len(days)})">\n{legend}'
-        '<path class="mark" d="M1340 0h6v36h-6z"/><text x="1350" y="32">breach</text>\n</g>\n</svg>\n'
+        '<path class="mark" d="M1340 0h6v36h-6z"/><text x="1360" y="32">breach</text>\n</g>\n</svg>\n'
     )
 
 

@@ -166,12 +166,13 @@ pub record HasDayGroup (line : List Span) (stretches : List Judged) (day y k : �
 
 -- ---- a month
 
+-- the style, and a white ground, so that the texts can also be read on a dark page
 abbrev pub chart_style : List ℕ
 chart_style =
     codes "<style>text{fill:#222}.right{text-anchor:end}.middle{text-anchor:middle}.back{fill:#fafafa;stroke:#aaa}.hour{stroke:#d0d0d0}"
     ++ (codes ".rest{fill:#8fb8de}.available{fill:#c9b3e0}.work{fill:#f0a030}.drive{fill:#1f4e79}"
     ++ (codes ".crew{fill-opacity:.45;stroke:#222;stroke-dasharray:4 3}.unseen{fill:#555;fill-opacity:.16}"
-    ++ codes ".breach path,.mark{fill:#c00000;stroke:#fff;stroke-width:2}.code{fill:#c00000;font-weight:bold;font-size:15px}</style>\n"))
+    ++ codes ".breach path,.mark{fill:#c00000;stroke:#fff;stroke-width:2}.code{fill:#c00000;font-weight:bold;font-size:15px}</style>\n<rect width=\"100%\" height=\"100%\" fill=\"#fff\"/>\n"))
 
 -- above the days: what the hours are in, and what the amounts at the right are
 abbrev pub chart_columns : List ℕ
@@ -229,7 +230,7 @@ legend_others =
     codes "<rect class=\"drive crew\" x=\"700\" y=\"4\" width=\"40\" height=\"28\"/><text x=\"750\" y=\"32\">second driver</text>\n"
     ++ (codes "<rect class=\"back\" x=\"930\" y=\"4\" width=\"40\" height=\"28\"/><text x=\"980\" y=\"32\">not known</text>\n"
     ++ (codes "<rect class=\"unseen\" x=\"1120\" y=\"0\" width=\"40\" height=\"36\"/><text x=\"1170\" y=\"32\">not examined</text>\n"
-    ++ codes "<path class=\"mark\" d=\"M1340 0h6v36h-6z\"/><text x=\"1350\" y=\"32\">breach</text>\n</g>\n</svg>\n"))
+    ++ codes "<path class=\"mark\" d=\"M1340 0h6v36h-6z\"/><text x=\"1360\" y=\"32\">breach</text>\n</g>\n</svg>\n"))
 
 abbrev pub chart_legend : ℕ → List ℕ
 chart_legend days = legend_open days ++ (legend_bars ++ legend_others)

@@ -162,7 +162,7 @@ fn push_open(text: &mut String, height: u32) -> Result<(), AllocError>
     )
 }
 
-/// Appends the style of all that is drawn.
+/// Appends the style of all that is drawn, and the ground.
 fn push_style(text: &mut String) -> Result<(), AllocError>
     ensures { OnOk result (string_bytes text.new ≡ string_bytes text.old ++ chart_style) }
 {
@@ -176,7 +176,7 @@ fn push_style(text: &mut String) -> Result<(), AllocError>
         ".crew{fill-opacity:.45;stroke:#222;stroke-dasharray:4 3}.unseen{fill:#555;fill-opacity:.16}",
     )?;
     text.push_str(
-        ".breach path,.mark{fill:#c00000;stroke:#fff;stroke-width:2}.code{fill:#c00000;font-weight:bold;font-size:15px}</style>\n",
+        ".breach path,.mark{fill:#c00000;stroke:#fff;stroke-width:2}.code{fill:#c00000;font-weight:bold;font-size:15px}</style>\n<rect width=\"100%\" height=\"100%\" fill=\"#fff\"/>\n",
     )
 }
 
@@ -589,6 +589,6 @@ fn push_legend_others(text: &mut String) -> Result<(), AllocError>
         "<rect class=\"unseen\" x=\"1120\" y=\"0\" width=\"40\" height=\"36\"/><text x=\"1170\" y=\"32\">not examined</text>\n",
     )?;
     text.push_str(
-        "<path class=\"mark\" d=\"M1340 0h6v36h-6z\"/><text x=\"1350\" y=\"32\">breach</text>\n</g>\n</svg>\n",
+        "<path class=\"mark\" d=\"M1340 0h6v36h-6z\"/><text x=\"1360\" y=\"32\">breach</text>\n</g>\n</svg>\n",
     )
 }
