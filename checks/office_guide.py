@@ -410,8 +410,17 @@ def months(office):
         yield "the file as it came", file.read(), DAY
 
 
+def later(file, days):
+    """A card file of 4 and 5 March 2024, some days later."""
+    for moment in (1_709_510_400, 1_709_596_800):
+        file = file.replace(moment.to_bytes(4, "big"), (moment + 86_400 * days).to_bytes(4, "big"))
+    return file
+
+
 def inspections(office):
     """What is written for an officer: of the card files those that cover a minute of March."""
+    number = len(office.told("files", "17").splitlines()) + 1
+    yield "a card file of June", office.told("import", "both", given=later(DAY, 91)), f"added driver 17 number {number}\n"
     listed = office.told("files", "17")
     yield office.typed("./tacho files archive.db 17 > files.txt", "")
     yield "the list of card files", office.read("files.txt"), listed
