@@ -16,12 +16,12 @@ from typing import Any
 from inputs import random_cards
 from inputs.random_commands import KEYS, date_text, driver_csv
 from lib import charts, counting, files, pools
+from lib.readings import FOLDER, steps_of
 from lib.script import of_commands
 from slow import slow_office, slow_reader
 
 SEEDS = 80
 PROCESSES = 2
-FOLDER = os.path.join(files.CHECKS, "readings")
 DAY, WEEK = 1440, 10_080
 LAST_DAY = 47_481  # 2099-12-31
 NUMBERS = [900, 17]
@@ -33,16 +33,6 @@ NIGHTS = [480, 539, 540, 599, 660, 661, 1440, 2699, 2700]
 
 
 # Expected outputs
-
-
-def steps_of(case):
-    """The commands of a folder: their arguments, their input, and what they answer."""
-    with open(os.path.join(FOLDER, case, "steps"), encoding="utf-8") as file:
-        for line in file.read().splitlines():
-            command, arrow, told = line.partition(" -> ")
-            if arrow:
-                words, _, name = command.partition(" < ")
-                yield words.split(" "), files.read(os.path.join(FOLDER, case, name)) if name else b"", told
 
 
 def of_case(program, case):
@@ -60,6 +50,8 @@ def of_case(program, case):
         expected = os.path.join(FOLDER, case, "expected")
         for name in sorted(os.listdir(expected)):
             words = name.split("-", 2 if name.startswith("chart-") else 1)
+            if words[0] == "why":
+                continue  # no command prints evidence yet: compare_evidence.py compares these
             text, fault = told(words)
             shown = charts.lines_of(text).encode() if words[0] == "chart" else text
             yield f"{case}: {name}", (shown, fault), (files.read(os.path.join(expected, name)), b"")
