@@ -12,11 +12,11 @@ use Rattle.tacho_law.specs.Exactly.{AreExactly}
 use Rattle.tacho_law.specs.Driving.{driving}
 use Rattle.tacho_law.specs.Breaches.{IsB1, IsBreakBreach}
 use Rattle.tacho_law.specs.Order.{Earlier, AreBreaches}
-use Rattle.tacho_plain.proofs.DaysLemmas.{pasts_rise}
+use Rattle.tacho_periods.proofs.DaysLemmas.{pasts_rise}
 use Rattle.tacho_law.proofs.DrivingLemmas.{driving_minute_only, driving_reaches}
 use Rattle.tacho_law.proofs.ExactlyLemmas.{OfBelow, below_none, below_skip, below_add, exactly_as}
 use Rattle.tacho_law.proofs.OrderLemmas.{same_breach}
-use Rattle.tacho_plain.proofs.RunsLemmas.{no_run, none_at_between, neighbours_at}
+use Rattle.tacho_periods.proofs.RunsLemmas.{no_run, none_at_between, neighbours_at}
 use Rattle.tacho_plain.specs.BreakBreaches.{IsLongPeriod}
 
 -- the breach between the break at a place and the break before it

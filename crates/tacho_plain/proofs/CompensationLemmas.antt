@@ -1,5 +1,5 @@
 -- Debts by week have the amounts and the payers of the definition (`rests`).
-use Rattle.std.proofs.Common.{◌≡◌, ℕ, ◌+◌, ◌-◌, ◌<◌, ◌≤◌, inl, inr, List, [], ◌∷◌, ◌++◌, length, length-append}
+use Rattle.std.proofs.Common.{◌≡◌, ℕ, ◌+◌, ◌<◌, ◌≤◌, inl, inr, List, [], ◌∷◌, ◌++◌, length, length-append}
 use Rattle.std.proofs.Common.{get_or, take, refl, sym, ap, subst, ◌∙◌, arith, Option, None, Some, min}
 use Rattle.std.specs.Prelude.{◌↔◌, slice_get, MatchOption}
 use Rattle.std.specs.List.{AllPairs, Contains}
@@ -16,49 +16,15 @@ use Rattle.tacho_law.specs.declared.debt.Debt.{Debt}
 use Rattle.tacho_law.specs.Runs.{IsRestRun, Before, minutes_of, AreRestsOf}
 use Rattle.tacho_law.specs.Line.{Line}
 use Rattle.tacho_law.specs.Weeks.{week_start}
-use Rattle.tacho_law.specs.Debts.{minutes_before, paid_from, IsMainRest, Owes, Keeps}
+use Rattle.tacho_law.specs.Debts.{minutes_before, paid_from, IsMainRest, Owes}
 use Rattle.tacho_law.specs.Debts.{CanPay, Pays, IsSettled, EarlierWeek, AreDebts}
-use Rattle.tacho_plain.proofs.RunsLemmas.{no_run}
+use Rattle.tacho_periods.proofs.RunsLemmas.{no_run}
 use Rattle.tacho_law.proofs.DebtsLemmas.{separate, can_alike}
-use Rattle.tacho_law.specs.MainRests.{IsKept}
 use Rattle.tacho_plain.specs.RestBreaches.{IsLastRun, IsDebtOf}
-use Rattle.tacho_plain.proofs.RunsLemmas.{rests_are}
+use Rattle.tacho_periods.proofs.RunsLemmas.{rests_are}
 use Rattle.tacho_law.proofs.MainRestLemmas.{one_week}
-use Rattle.tacho_plain.proofs.MainRestLemmas.{one_start, known_most}
-
--- `IsKept` agrees with the definition of what a rest keeps
-pub keeps_is : (line : Line) (horizon : ℕ) (rest : Run) (kept : ℕ)
-    → IsKept line horizon rest kept → Keeps line horizon rest kept
-keeps_is line horizon rest kept k = record {
-  main = λ w m. elim k [ inl as_main ↦ as_main.0 | inr as_other ↦ absurd (as_other.1 w m) ];
-  other = λ none. elim k [ inl as_main ↦ absurd (none as_main.1.0 as_main.1.1) | inr as_other ↦ as_other.0 ];
-}
-
--- what a rest keeps is unique
-pub kept_only : (line : Line) (horizon : ℕ) (rest : Run) (kept other : ℕ)
-    → IsKept line horizon rest kept → Keeps line horizon rest other → kept ≡ other
-kept_only line horizon rest kept other k keeps = elim k [
-  | inl as_main ↦ as_main.0 ∙ sym (keeps.main as_main.1.0 as_main.1.1)
-  | inr as_other ↦ as_other.0 ∙ sym (keeps.other as_other.1)
-]
-
--- a rest keeps at least nine hours
-pub kept_least : (line : Line) (horizon : ℕ) (rest : Run) (kept : ℕ) → Keeps line horizon rest kept → 540 ≤ kept
-kept_least line horizon rest kept keeps = elim (cases_lt kept 540) [
-  | inl fewer ↦ absurd (
-      let e : kept ≡ 540 = keeps.other (λ w main. let f : kept ≡ 2700 = keeps.main w main in omega arith) in
-      omega arith)
-  | inr enough ↦ enough
-]
-
--- if the test of room passes, there is room
-pub room_yes : (amount minutes kept paid : ℕ) → 0 < amount
-    → amount ≤ (minutes - kept) - paid → kept + paid + amount ≤ minutes
-room_yes amount minutes kept paid some fits = omega arith
-
--- if there is room, the test passes
-pub room_no : (amount minutes kept paid : ℕ) → kept + paid + amount ≤ minutes → amount ≤ (minutes - kept) - paid
-room_no amount minutes kept paid fits = omega arith
+use Rattle.tacho_periods.proofs.MainRestLemmas.{one_start, known_most}
+use Rattle.tacho_periods.proofs.RoomLemmas.{kept_least}
 
 -- facts about weekly rests
 module _ (line : Line) (weekly : List Run) (are : AreRestsOf line 1440 weekly) (horizon : ℕ) where

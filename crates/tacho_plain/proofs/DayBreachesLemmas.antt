@@ -16,7 +16,7 @@ use Rattle.tacho_law.specs.declared.breach.Kind.TheVariants.{B1, B2, B3, B4, B5,
 use Rattle.tacho_law.specs.Line.{line_of, IsExamined, Line}
 use Rattle.tacho_law.specs.Runs.{minutes_of}
 use Rattle.tacho_law.specs.Days.{IsDuty}
-use Rattle.tacho_plain.specs.DayBreaches.{AreDutyDays}
+use Rattle.tacho_periods.specs.DutyDays.{AreDutyDays}
 use Rattle.tacho_law.specs.Order.{Agree, Earlier, AreBreaches, place_of_kind}
 use Rattle.tacho_law.specs.SoFar.{AreCollected}
 use Rattle.tacho_law.specs.Breaches.{AreDayBreaches, IsDayBreach, IsB2, IsB3, IsB4, IsB5}

@@ -10,12 +10,12 @@ use Rattle.tacho_law.specs.declared.breach.Kind.{Kind}
 use Rattle.tacho_law.specs.declared.breach.Kind.TheVariants.{B2, B4}
 use Rattle.tacho_law.specs.Line.{Line}
 use Rattle.tacho_law.specs.Days.{IsDuty, EarlierDay}
-use Rattle.tacho_plain.specs.DayBreaches.{AreDutyDays}
+use Rattle.tacho_periods.specs.DutyDays.{AreDutyDays}
 use Rattle.tacho_law.specs.Order.{Earlier, AreBreaches}
 use Rattle.tacho_law.specs.Breaches.{IsB2, IsB4}
 use Rattle.tacho_law.specs.Exactly.{AreExactly}
 use Rattle.tacho_law.proofs.ExactlyLemmas.{OfSeen, seen_none, seen_skip, seen_add, exactly_as}
-use Rattle.tacho_plain.proofs.KeptLemmas.{seen_before}
+use Rattle.tacho_periods.proofs.KeptLemmas.{seen_before}
 use Rattle.tacho_plain.specs.DayBreaches.{IsInTime}
 use Rattle.tacho_plain.specs.DailyRests.{IsShortRest}
 use Rattle.tacho_plain.specs.DailyDriving.{IsLongDay}

@@ -11,10 +11,10 @@ use Rattle.tacho_law.specs.Line.{line_of, IsExamined}
 use Rattle.tacho_law.specs.Runs.{IsRestRun, AreRestRuns, AreRestsOf, Before}
 use Rattle.tacho_choice.specs.Weeks.{IsInWeeks}
 use Rattle.tacho_choice.proofs.SeenLemmas.{in_weeks as weeks_by}
-use Rattle.tacho_plain.specs.Rests.{AreInTime}
+use Rattle.tacho_periods.specs.Rests.{AreInTime}
 use Rattle.tacho_law.proofs.ExactlyLemmas.{at_index}
 use Rattle.tacho_law.proofs.RunsLemmas.{line_before}
-use Rattle.tacho_plain.proofs.RunsLemmas.{rests_are}
+use Rattle.tacho_periods.proofs.RunsLemmas.{rests_are}
 use Rattle.tacho_law.proofs.DrivingLemmas.{line_from_past}
 use Rattle.tacho_law.proofs.CoveringLemmas.{Covers, covered}
 use Rattle.tacho_plain.specs.RestBreaches.{IsLastRun}

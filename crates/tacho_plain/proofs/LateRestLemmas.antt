@@ -6,9 +6,9 @@ use Rattle.tacho_law.specs.declared.breach.Breach.{Breach}
 use Rattle.tacho_law.specs.declared.breach.Kind.TheVariants.{B8}
 use Rattle.tacho_law.specs.Line.{Line}
 use Rattle.tacho_law.specs.Runs.{AreRestsOf}
-use Rattle.tacho_plain.specs.Rests.{AreInTime}
-use Rattle.tacho_plain.proofs.RunsLemmas.{no_run}
-use Rattle.tacho_plain.proofs.DaysLemmas.{next_are_neighbours, neighbours_are_next}
+use Rattle.tacho_periods.specs.Rests.{AreInTime}
+use Rattle.tacho_periods.proofs.RunsLemmas.{no_run}
+use Rattle.tacho_periods.proofs.DaysLemmas.{next_are_neighbours, neighbours_are_next}
 use Rattle.tacho_law.specs.Order.{Apart}
 use Rattle.tacho_law.specs.SoFar.{AreCollected}
 use Rattle.tacho_law.specs.Breaches.{IsLate}

@@ -15,8 +15,8 @@ use Rattle.tacho_law.specs.Days.{EarlierDay, IsDuty, IsReduced}
 use Rattle.tacho_law.specs.Exactly.{HasCount}
 use Rattle.tacho_law.specs.Weeks.{IsInWeek, IsWeeklyRest}
 use Rattle.tacho_law.specs.Breaches.{IsExtended, IsB3, IsB5}
-use Rattle.tacho_plain.proofs.DaysLemmas.{HaveEnded, pasts_rise}
-use Rattle.tacho_plain.proofs.RunsLemmas.{no_run}
+use Rattle.tacho_periods.proofs.DaysLemmas.{HaveEnded, pasts_rise}
+use Rattle.tacho_periods.proofs.RunsLemmas.{no_run}
 use Rattle.tacho_plain.specs.DayBreaches.{IsInTime, AreTheDays}
 use Rattle.tacho_plain.specs.DailyDriving.{IsLongDay, IsLongDuty}
 use Rattle.tacho_plain.specs.DailyRests.{IsLastEnd}

@@ -3,7 +3,7 @@ use Rattle.std.proofs.Common.{inl, inr, refl, arith}
 use Rattle.tacho_law.specs.declared.breach.Kind.TheVariants.{B2}
 use Rattle.tacho_law.proofs.PageFacts.{at, rest_between, day_to}
 use Rattle.tacho_plain.specs.DailyRests.{IsShortRest}
-use Rattle.tacho_plain.specs.MainRests.{IsBetter}
+use Rattle.tacho_periods.specs.MainRests.{IsBetter}
 
 -- ---- days
 

@@ -8,8 +8,8 @@ use Rattle.std.proofs.lemmas.List.Elements.{Contains-push, Contains-append_left,
 use Rattle.tacho_law.specs.declared.days.DutyDay.{DutyDay}
 use Rattle.tacho_law.specs.Days.{EarlierDay}
 use Rattle.tacho_law.specs.Exactly.{HasCount}
-use Rattle.tacho_plain.proofs.KeptLemmas.{AreKept, kept_none, kept_nothing, kept_add}
-use Rattle.tacho_plain.proofs.KeptLemmas.{kept_skip, seen_before}
+use Rattle.tacho_periods.proofs.KeptLemmas.{AreKept, kept_none, kept_nothing, kept_add}
+use Rattle.tacho_periods.proofs.KeptLemmas.{kept_skip, seen_before}
 use Rattle.tacho_law.proofs.ExactlyLemmas.{how_many_as}
 use Rattle.tacho_plain.specs.DayBreaches.{IsInTime, AreTheDays}
 use Rattle.tacho_plain.proofs.DayFoundLemmas.{no_day}

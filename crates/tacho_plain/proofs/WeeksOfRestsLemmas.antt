@@ -14,8 +14,8 @@ use Rattle.tacho_choice.specs.declared.week.WeekOfRests.{WeekOfRests}
 use Rattle.tacho_choice.specs.Weeks.{IsInWeeks, IsWeekOfRests, week_none, week_with}
 use Rattle.tacho_choice.proofs.SeenLemmas.{seen_none, seen_more, seen_agree}
 use Rattle.tacho_plain.specs.Choices.{AreWeeksOf}
-use Rattle.tacho_plain.proofs.KeptLemmas.{seen_before}
-use Rattle.tacho_plain.proofs.RunsLemmas.{no_run}
+use Rattle.tacho_periods.proofs.KeptLemmas.{seen_before}
+use Rattle.tacho_periods.proofs.RunsLemmas.{no_run}
 
 module _ (rests : List Run) (w : ℕ) where
   -- the week, from the first n rests

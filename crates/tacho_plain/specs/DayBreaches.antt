@@ -6,13 +6,9 @@ use Rattle.tacho_law.specs.declared.breach.Breach.{Breach}
 use Rattle.tacho_law.specs.declared.breach.Kind.TheVariants.{B2, B3, B4, B5}
 use Rattle.tacho_law.specs.Line.{Line}
 use Rattle.tacho_law.specs.Exactly.{AreExactly}
-use Rattle.tacho_law.specs.Days.{IsDuty, EarlierDay}
+use Rattle.tacho_law.specs.Days.{EarlierDay}
 use Rattle.tacho_law.specs.Breaches.{IsB2, IsB3, IsB4, IsB5}
 use Rattle.tacho_law.specs.Limits.{daily_rest, latest, first_week}
-
--- the duty days of a line, in order of time
-abbrev pub AreDutyDays : Line → List DutyDay → Type 0
-AreDutyDays line days = AreExactly (IsDuty line) EarlierDay days
 
 -- a day after week 0's start and before 2100, with a daily rest of 540 minutes or more
 pub record IsInTime (day : DutyDay) : Type 0 where

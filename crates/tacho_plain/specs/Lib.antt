@@ -1,5 +1,3 @@
-pub mod Rests
-pub mod MainRests
 pub mod BreakBreaches
 pub mod DayBreaches
 pub mod DailyRests

@@ -7,13 +7,10 @@ ghost use Rattle.tacho_law.specs.Breaches.{IsBreakBreach, AreBreakBreaches};
 ghost use Rattle.tacho_law.specs.Limits.{driving_before_break};
 ghost use Rattle.tacho_plain.specs.BreakBreaches.{IsLongPeriod};
 
-use crate::break_runs::complete_breaks;
-use crate::driving::{Excess, driving_minute, excess_between};
-use crate::examined::Examined;
-use crate::runs::rest_runs;
 use std::alloc::{AllocError, Global};
 use tacho_law::limits::DRIVING_BEFORE_BREAK;
 use tacho_law::{Breach, Kind, Run};
+use tacho_periods::{Examined, Excess, complete_breaks, driving_minute, excess_between, rest_runs};
 use tacho_time::{Minute, Span};
 
 /// Returns the breach from `from` to before `to`, if there are too many driving minutes.

@@ -6,13 +6,13 @@ ghost use Rattle.tacho_law.specs.Weeks.{IsWeeklyRest};
 ghost use Rattle.tacho_law.specs.Choice.{CanServe};
 ghost use Rattle.tacho_choice.specs.Step.{counted_of, may, IsFirst, IsNext};
 ghost use Rattle.tacho_choice.specs.Weeks.{IsInWeeks, IsWeekOfRests, CanReach};
-ghost use Rattle.tacho_plain.specs.Rests.{AreInTime};
+ghost use Rattle.tacho_periods.specs.Rests.{AreInTime};
 ghost use Rattle.tacho_plain.specs.Choices.{AreWeeksOf};
 
-use crate::main_rests::touching;
 use std::alloc::{AllocError, Global};
 use tacho_choice::{Outcome, WeekOfRests, WeeklyRests};
 use tacho_law::Run;
+use tacho_periods::touching;
 use tacho_time::{Week, first_minute};
 
 /// Returns a week, built from the weekly rests that touch it.

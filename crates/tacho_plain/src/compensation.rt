@@ -1,21 +1,21 @@
-ghost use Rattle.std.specs.Prelude.{◌≡◌, ◌-◌, ◌+◌, ◌<◌, ◌≤◌, ◌↔◌, ℕ, AllPairs, Contains, IfOk, IsTrue, MatchOption};
+ghost use Rattle.std.specs.Prelude.{◌≡◌, ◌<◌, ◌≤◌, ◌↔◌, ℕ, IfOk, IsTrue, MatchOption};
 ghost use Rattle.std.specs.Prelude.{None as NoPayer};
 ghost use Rattle.tacho_law.specs.declared.run.Run.{Run as RunValue};
 ghost use Rattle.tacho_law.specs.declared.debt.Debt.{Debt as DebtValue};
 ghost use Rattle.tacho_law.specs.Runs.{IsRestRun, AreRestsOf};
-ghost use Rattle.tacho_plain.specs.Rests.{AreInTime};
+ghost use Rattle.tacho_periods.specs.Rests.{AreInTime};
 ghost use Rattle.tacho_law.specs.Line.{Line};
-ghost use Rattle.tacho_law.specs.Debts.{share, paid_from, CanPay, HasRoom, IsMainRest, Owes, Pays, AreDebts};
+ghost use Rattle.tacho_law.specs.Debts.{CanPay, IsMainRest, Owes, Pays, AreDebts};
 ghost use Rattle.tacho_law.specs.Weeks.{week_start};
 ghost use Rattle.tacho_law.specs.SoFar.{AreCollected};
 ghost use Rattle.tacho_law.specs.Limits.{daily_rest, weekly_rest, latest};
 ghost use Rattle.tacho_plain.specs.RestBreaches.{IsLastRun, IsDebtOf};
 ghost use Rattle.tacho_law.specs.Breaches.{IsOverdue};
 
-use crate::main_rests::{is_main, kept_minutes, touching};
 use std::alloc::{AllocError, Global};
 use tacho_law::limits::{REGULAR_WEEKLY_REST, WEEKS_TO_PAY};
-use tacho_law::{Breach, Debt, Kind, Run, known_minutes};
+use tacho_law::{Breach, Debt, Kind, Run};
+use tacho_periods::{has_room, is_main, touching};
 use tacho_time::{Minute, Week, first_minute, week_of};
 
 /// Returns the debt, without a payer, of the week whose main rest `rest` is, if the rest is too short and the last run starts in a later
@@ -44,43 +44,6 @@ fn debt_of(weekly: &[Run], horizon: u32, last: Run, rest: Run) -> Option<Debt>
         deadline: first_minute(Week::new(week + WEEKS_TO_PAY)),
         paid_by: None,
     })
-}
-
-/// Returns how many minutes of a debt a rest pays.
-fn share_of(rest: Run, debt: &Debt) -> u32
-    ensures { result ≡ share rest debt.now }
-{
-    match debt.paid_by {
-        Some(start) if start.number() == rest.start => debt.amount,
-        _ => 0,
-    }
-}
-
-/// Returns what remains of `minutes` of a rest after the debts that it pays.
-fn left_of(minutes: u32, rest: Run, debts: &[Debt]) -> u32
-    ensures { result ≡ minutes - paid_from rest debts.now }
-{
-    let mut left = minutes;
-    for debt in debts {
-        left = left.saturating_sub(share_of(rest, debt));
-    }
-    left
-}
-
-/// True if a rest has room for a debt, in addition to what it keeps and what it pays of earlier debts (Article 8(6b)).
-fn has_room(weekly: &[Run], horizon: u32, earlier: &[Debt], debt: &Debt, rest: Run) -> bool
-    requires in_time { AreInTime weekly.now }
-    requires in_range { rest.start ≤ latest }
-    requires nonempty { 0 < debt.now.amount }
-    ensures { (line : Line) → AreRestsOf line weekly_rest weekly.now → IsRestRun line rest
-        → (IsTrue result ↔ HasRoom line horizon earlier.now debt.now rest) }
-{
-    let minutes = known_minutes(rest, horizon.min(debt.deadline.number()));
-    let room = minutes.saturating_sub(kept_minutes(weekly, horizon, rest));
-    if room < debt.amount {
-        return false;
-    }
-    debt.amount <= left_of(room, rest, earlier)
 }
 
 /// Returns the first minute of the first rest after a debt's main rest that can pay the debt. `daily` are the rests of nine hours or more,

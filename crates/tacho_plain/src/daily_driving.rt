@@ -1,19 +1,18 @@
 ghost use Rattle.std.specs.Prelude.{◌≡◌, ◌<◌, ◌≤◌, All, IfOk, MatchOption};
 ghost use Rattle.tacho_law.specs.Line.{line_of, IsExamined};
 ghost use Rattle.tacho_law.specs.Driving.{driving};
-ghost use Rattle.tacho_plain.specs.DayBreaches.{AreDutyDays};
+ghost use Rattle.tacho_periods.specs.DutyDays.{AreDutyDays};
 ghost use Rattle.tacho_law.specs.Order.{AreBreaches};
 ghost use Rattle.tacho_law.specs.SoFar.{AreCollected};
 ghost use Rattle.tacho_law.specs.Breaches.{IsB4, IsB5};
 ghost use Rattle.tacho_plain.specs.DayBreaches.{IsInTime, AreTheDays, IsDriveKind};
 ghost use Rattle.tacho_plain.specs.DailyDriving.{IsLongDay, IsLongDuty};
 
-use crate::driving::{Excess, driving_minutes, excess_between};
-use crate::examined::Examined;
 use crate::tally::{Tally, counted};
 use std::alloc::{AllocError, Global};
 use tacho_law::limits::{DRIVING_IN_DAY, DRIVING_IN_EXTENDED_DAY, EXTENDED_DAYS};
 use tacho_law::{Breach, DutyDay, Kind};
+use tacho_periods::{Examined, Excess, driving_minutes, excess_between};
 use tacho_time::{Minute, week_of};
 
 /// Returns the breach of a day, if it has too many driving minutes (Article 6(1)).

@@ -3,7 +3,7 @@ ghost use Rattle.tacho_law.specs.declared.run.Run.{Run as RunValue};
 ghost use Rattle.tacho_law.specs.Line.{Line};
 ghost use Rattle.tacho_law.specs.Runs.{AreRuns, AreRestRuns, AreRestsOf};
 ghost use Rattle.tacho_law.specs.Days.{HasPortion, IsReduced, EarlierDay};
-ghost use Rattle.tacho_plain.specs.DayBreaches.{AreDutyDays};
+ghost use Rattle.tacho_periods.specs.DutyDays.{AreDutyDays};
 ghost use Rattle.tacho_law.specs.Order.{AreBreaches};
 ghost use Rattle.tacho_law.specs.SoFar.{AreCollected};
 ghost use Rattle.tacho_law.specs.Breaches.{IsB2, IsB3};
@@ -11,14 +11,13 @@ ghost use Rattle.tacho_law.specs.Limits.{first_part_of_daily_rest, daily_rest, w
 ghost use Rattle.tacho_plain.specs.DayBreaches.{IsInTime, AreTheDays, IsRestKind};
 ghost use Rattle.tacho_plain.specs.DailyRests.{IsShortRest, IsLastEnd};
 
-use crate::duty::long_rests;
-use crate::portions::is_reduced;
 use crate::tally::{Tally, counted};
 use std::alloc::{AllocError, Global};
 use tacho_law::limits::{
     DAILY_REST, FIRST_PART_OF_DAILY_REST, MINUTES_OF_DAY, REDUCED_DAILY_RESTS, WEEKLY_REST,
 };
 use tacho_law::{Breach, DutyDay, Kind, Run, has_portion};
+use tacho_periods::{is_reduced, long_rests};
 use tacho_time::Minute;
 
 /// Returns the breach of a day, if its rest is too short (Article 8(2)).

@@ -4,11 +4,9 @@ ghost use Rattle.tacho_law.specs.Breaches.{AreDayBreaches};
 
 use crate::daily_driving::of_driving;
 use crate::daily_rests::of_rests;
-use crate::duty::duty_days;
-use crate::examined::Examined;
-use crate::runs::rest_runs;
 use std::alloc::{AllocError, Global};
 use tacho_law::{Breach, put_in_order};
+use tacho_periods::{Examined, duty_days, rest_runs};
 use tacho_time::{Minute, Span};
 
 /// Returns the breaches of the rules on days (Article 6(1), Article 8(2) and (4)) from `base` to before `past`, in order of time.

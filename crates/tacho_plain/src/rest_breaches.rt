@@ -2,20 +2,18 @@ ghost use Rattle.std.specs.Prelude.{◌≤◌, IfOk};
 ghost use Rattle.tacho_law.specs.Line.{line_of, IsBase, IsExamined, Line};
 ghost use Rattle.tacho_law.specs.Runs.{AreRestsOf};
 ghost use Rattle.tacho_choice.specs.Weeks.{IsInWeeks};
-ghost use Rattle.tacho_plain.specs.Rests.{AreInTime};
+ghost use Rattle.tacho_periods.specs.Rests.{AreInTime};
 ghost use Rattle.tacho_law.specs.Breaches.{AreRestBreaches, IsLate, IsLacking};
 ghost use Rattle.tacho_law.specs.SoFar.{AreCollected};
 ghost use Rattle.tacho_law.specs.Limits.{weekly_rest, latest};
 
 use crate::choices::{can_serve, weeks_of_rests};
 use crate::compensation::{debts_of, overdue};
-use crate::duty::long_rests;
-use crate::examined::Examined;
-use crate::runs::rest_runs;
 use std::alloc::{AllocError, Global};
 use tacho_law::limits::{DAILY_REST, SIX_DAYS, WEEKLY_REST};
 use tacho_law::{Breach, Kind, Run, put_in_order};
 use tacho_pass::Found;
+use tacho_periods::{Examined, long_rests, rest_runs};
 use tacho_time::{Minute, Span, Week, first_minute, week_of};
 
 /// Finds the breaches of weekly rests that start too late (Article 8(6)), in order of time.

@@ -4,11 +4,10 @@ ghost use Rattle.tacho_law.specs.Driving.{driving};
 ghost use Rattle.tacho_law.specs.Breaches.{AreWeekBreaches, IsDrivingBreach};
 ghost use Rattle.tacho_plain.specs.WeekBreaches.{AreOfWeeks};
 
-use crate::driving::{Excess, excess_between};
-use crate::examined::Examined;
 use std::alloc::{AllocError, Global};
 use tacho_law::limits::{DRIVING_IN_TWO_WEEKS, DRIVING_IN_WEEK};
 use tacho_law::{Breach, Kind, put_in_order};
+use tacho_periods::{Examined, Excess, excess_between};
 use tacho_time::{Minute, Span, Week, first_minute, week_of};
 
 /// Returns the breach from `since` to before `to`, if more than `most` minutes are driving.

@@ -1,13 +1,13 @@
 ghost use Rattle.std.specs.Prelude.{◌≡◌, ◌+◌, ◌≤◌, ◌<◌, All, AllPairs, false};
 ghost use Rattle.tacho_law.specs.Line.{Joined};
 ghost use Rattle.tacho_law.specs.Runs.{Before};
-ghost use Rattle.tacho_plain.specs.Rests.{AreInTime};
+ghost use Rattle.tacho_periods.specs.Rests.{AreInTime};
 
 use crate::same::assert_same;
 use std::alloc::{AllocError, Global};
 use std::test::Fail;
 use tacho_law::{Breach, DutyDay, FAR, Kind, Run, has_portion, known_minutes, put_in_order};
-use tacho_plain::{
+use tacho_periods::{
     Examined, Excess, complete_breaks, driving_minute, driving_minutes, duty_days, excess_between,
     is_main, is_reduced, is_regular, kept_minutes, long_rests, rest_runs, touching,
 };

@@ -1,5 +1,5 @@
 use Rattle.std.proofs.Common.{◌≤◌, arith, refl}
-use Rattle.tacho_plain.proofs.DrivingLemmas.{drives_within}
+use Rattle.tacho_periods.proofs.DrivingLemmas.{drives_within}
 use Rattle.tacho_plain.proofs.break_breaches.breach_between.Goals as goal
 
 pub new-requires : goal.new-requires

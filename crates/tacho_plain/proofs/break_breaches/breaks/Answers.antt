@@ -1,6 +1,6 @@
 use Rattle.tacho_law.specs.Line.{line_of}
 use Rattle.tacho_law.specs.Runs.{AreRuns}
-use Rattle.tacho_plain.proofs.BreaksLemmas.{breaks_are}
+use Rattle.tacho_periods.proofs.BreaksLemmas.{breaks_are}
 use Rattle.tacho_law.proofs.RunsLemmas.{rest_runs_are}
 use Rattle.tacho_plain.proofs.break_breaches.breaks.Goals as goal
 

@@ -3,7 +3,7 @@ use Rattle.tacho_time.specs.declared.span.Activity.{Activity}
 use Rattle.tacho_law.specs.declared.run.Run.{Run}
 use Rattle.tacho_law.specs.Line.{line_of}
 use Rattle.tacho_law.specs.Driving.{driving}
-use Rattle.tacho_plain.proofs.RunsLemmas.{no_run}
+use Rattle.tacho_periods.proofs.RunsLemmas.{no_run}
 use Rattle.tacho_plain.proofs.BreakBreachesLemmas.{found_none, found_add, found_skip, found_all}
 use Rattle.tacho_plain.proofs.break_breaches.long_periods.Goals as goal
 use Rattle.tacho_plain.proofs.break_breaches.long_periods.Goals.{in-Some+in_ok-push, in_default}

@@ -3,7 +3,7 @@ use Rattle.tacho_law.specs.Runs.{minutes_of}
 use Rattle.tacho_law.specs.Weeks.{IsInWeek, week_start}
 use Rattle.tacho_law.specs.Debts.{IsMainRest}
 use Rattle.tacho_law.proofs.MainRestLemmas.{one_week}
-use Rattle.tacho_plain.proofs.MainRestLemmas.{main_in}
+use Rattle.tacho_periods.proofs.MainRestLemmas.{main_in}
 use Rattle.tacho_plain.proofs.CompensationLemmas.{owes_lacks, last_only}
 use Rattle.tacho_plain.proofs.compensation.debt_of.Goals as goal
 use Rattle.tacho_plain.proofs.compensation.debt_of.Goals.{

@@ -7,8 +7,8 @@ use Rattle.tacho_law.specs.declared.debt.Debt.{Debt}
 use Rattle.tacho_law.specs.Runs.{IsRestRun, Before, minutes_of}
 use Rattle.tacho_law.specs.Weeks.{week_start}
 use Rattle.tacho_law.specs.Debts.{CanPay, Pays}
-use Rattle.tacho_plain.proofs.RunsLemmas.{no_run}
-use Rattle.tacho_plain.proofs.KeptLemmas.{seen_before}
+use Rattle.tacho_periods.proofs.RunsLemmas.{no_run}
+use Rattle.tacho_periods.proofs.KeptLemmas.{seen_before}
 use Rattle.tacho_plain.specs.RestBreaches.{IsDebtOf}
 use Rattle.tacho_plain.proofs.CompensationLemmas.{AreSettled, settled_none, settled_skip}
 use Rattle.tacho_plain.proofs.CompensationLemmas.{settled_add, settled_all, settled_as, owes_lacks}

@@ -4,7 +4,7 @@ use Rattle.std.proofs.lemmas.List.{take_more, take_all}
 use Rattle.tacho_law.specs.declared.breach.Breach.{Breach}
 use Rattle.tacho_law.specs.declared.debt.Debt.{Debt}
 use Rattle.tacho_law.specs.Debts.{EarlierWeek}
-use Rattle.tacho_plain.proofs.KeptLemmas.{seen_before}
+use Rattle.tacho_periods.proofs.KeptLemmas.{seen_before}
 use Rattle.tacho_law.proofs.OverdueLemmas.{OverdueFound, overdue_none, overdue_skip, overdue_add, overdue_all}
 use Rattle.tacho_plain.proofs.compensation.overdue.Goals as goal
 use Rattle.tacho_plain.proofs.compensation.overdue.Goals.{then-is_overdue+in_ok-push, else-is_overdue}

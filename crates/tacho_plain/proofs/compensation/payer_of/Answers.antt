@@ -4,8 +4,8 @@ use Rattle.tacho_law.specs.declared.run.Run.{Run}
 use Rattle.tacho_law.specs.declared.debt.Debt.{Debt}
 use Rattle.tacho_law.specs.Runs.{IsRestRun}
 use Rattle.tacho_law.specs.Debts.{HasRoom}
-use Rattle.tacho_plain.proofs.RunsLemmas.{no_run}
-use Rattle.tacho_plain.proofs.MainRestLemmas.{all_more, all_seen}
+use Rattle.tacho_periods.proofs.RunsLemmas.{no_run}
+use Rattle.tacho_periods.proofs.MainRestLemmas.{all_more, all_seen}
 use Rattle.tacho_plain.proofs.CompensationLemmas.{payer_among, payer_after, sooner_seen}
 use Rattle.tacho_plain.proofs.compensation.payer_of.Goals as goal
 

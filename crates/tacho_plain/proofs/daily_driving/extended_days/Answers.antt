@@ -4,7 +4,7 @@ use Rattle.tacho_law.specs.declared.days.DutyDay.{DutyDay}
 use Rattle.tacho_law.specs.Line.{line_of, Line}
 use Rattle.tacho_law.specs.Days.{EarlierDay}
 use Rattle.tacho_law.specs.Driving.{driving}
-use Rattle.tacho_plain.proofs.KeptLemmas.{AreKept, kept_none, kept_add_at, kept_skip_at}
+use Rattle.tacho_periods.proofs.KeptLemmas.{AreKept, kept_none, kept_add_at, kept_skip_at}
 use Rattle.tacho_plain.proofs.DayFoundLemmas.{no_day}
 use Rattle.tacho_plain.proofs.daily_driving.extended_days.Goals as goal
 use Rattle.tacho_plain.proofs.daily_driving.extended_days.Goals.{

@@ -3,7 +3,7 @@ use Rattle.tacho_law.specs.declared.days.DutyDay.{DutyDay}
 use Rattle.tacho_law.specs.Line.{line_of}
 use Rattle.tacho_law.specs.Days.{EarlierDay}
 use Rattle.tacho_law.specs.Driving.{driving}
-use Rattle.tacho_plain.proofs.KeptLemmas.{AreKept}
+use Rattle.tacho_periods.proofs.KeptLemmas.{AreKept}
 use Rattle.tacho_plain.proofs.daily_driving.extended_days.Given as goal
 
 abbrev pub invariant-loop-day : goal.invariant-loop-day

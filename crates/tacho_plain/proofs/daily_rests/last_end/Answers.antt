@@ -2,7 +2,7 @@ use Rattle.std.proofs.Common.{rules, ℕ, List, arith}
 use Rattle.std.proofs.Math.Dec.{leb}
 use Rattle.std.proofs.lemmas.List.Sorted.{IsPartitionPoint-from_clause, IsPartitionedBy-leb}
 use Rattle.tacho_law.specs.declared.run.Run.{Run}
-use Rattle.tacho_plain.proofs.DaysLemmas.{pasts_rise}
+use Rattle.tacho_periods.proofs.DaysLemmas.{pasts_rise}
 use Rattle.tacho_plain.proofs.OrdinalLemmas.{end_none, end_some}
 use Rattle.tacho_plain.proofs.daily_rests.last_end.Goals as goal
 

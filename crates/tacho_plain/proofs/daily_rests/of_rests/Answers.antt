@@ -6,7 +6,7 @@ use Rattle.tacho_law.specs.declared.days.DutyDay.{DutyDay}
 use Rattle.tacho_law.specs.Runs.{AreRestsOf}
 use Rattle.tacho_law.specs.Days.{EarlierDay, IsReduced}
 use Rattle.tacho_plain.specs.DayBreaches.{IsInTime, AreTheDays}
-use Rattle.tacho_plain.proofs.RunsLemmas.{rests_are}
+use Rattle.tacho_periods.proofs.RunsLemmas.{rests_are}
 use Rattle.tacho_plain.proofs.DayBreachesLemmas.{rests_join, times_of}
 use Rattle.tacho_plain.proofs.daily_rests.of_rests.Goals as goal
 

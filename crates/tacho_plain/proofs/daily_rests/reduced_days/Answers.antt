@@ -4,7 +4,7 @@ use Rattle.std.proofs.lemmas.List.{take_all}
 use Rattle.std.proofs.lemmas.List.Elements.{Contains-get_or}
 use Rattle.tacho_law.specs.declared.days.DutyDay.{DutyDay}
 use Rattle.tacho_law.specs.Days.{EarlierDay, HasReducedRest, IsReduced, IsDuty}
-use Rattle.tacho_plain.proofs.KeptLemmas.{AreKept, kept_none, kept_add_at, kept_skip_at}
+use Rattle.tacho_periods.proofs.KeptLemmas.{AreKept, kept_none, kept_add_at, kept_skip_at}
 use Rattle.tacho_law.proofs.DaysLemmas.{reduced_by_parts}
 use Rattle.tacho_plain.proofs.DayFoundLemmas.{no_day}
 use Rattle.tacho_plain.proofs.daily_rests.reduced_days.Goals as goal

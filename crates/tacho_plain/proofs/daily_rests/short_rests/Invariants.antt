@@ -1,6 +1,6 @@
 use Rattle.std.proofs.Common.{take}
 use Rattle.tacho_law.specs.Line.{Line}
-use Rattle.tacho_plain.specs.DayBreaches.{AreDutyDays}
+use Rattle.tacho_periods.specs.DutyDays.{AreDutyDays}
 use Rattle.tacho_plain.proofs.DayFoundLemmas.{DayFound, ShortOf}
 use Rattle.tacho_plain.proofs.daily_rests.short_rests.Given as goal
 

@@ -4,7 +4,7 @@ use Rattle.tacho_law.specs.declared.run.Run.{Run}
 use Rattle.tacho_law.specs.declared.days.DutyDay.{DutyDay}
 use Rattle.tacho_law.specs.Line.{line_of, Line}
 use Rattle.tacho_law.specs.Runs.{AreRestRuns}
-use Rattle.tacho_plain.specs.DayBreaches.{AreDutyDays}
+use Rattle.tacho_periods.specs.DutyDays.{AreDutyDays}
 use Rattle.tacho_law.proofs.RunsLemmas.{rest_runs_are}
 use Rattle.tacho_plain.specs.DayBreaches.{IsInTime}
 use Rattle.tacho_plain.proofs.DayBreachesLemmas.{days_join, days_exactly, times_all}

@@ -1,6 +1,0 @@
-use Rattle.std.proofs.Common.{◌≡◌, ◌-◌, take}
-use Rattle.tacho_law.specs.Debts.{paid_from}
-use Rattle.tacho_plain.proofs.compensation.left_of.Given as goal
-
-abbrev pub invariant-loop-debt : goal.invariant-loop-debt
-invariant-loop-debt l = l.left ≡ l.minutes - paid_from l.rest (take l.debt-index l.debts)
