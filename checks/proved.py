@@ -28,9 +28,9 @@ OPENING = (
     " come wherever the store is asked, and nowhere else.",
     "- A refusal leaves an archive's state and each of its rows as they were. A reader keeps what wasn't read, a"
     " writer has a beginning of the bytes, and of a text that was lent nothing is said after an error.",
-    "The scan of `tacho_rules`, its passes, `tacho_plain`, `tacho_tables`, `tacho_reading` and `tacho_shelf` have"
-    " contracts too. They lie between these calls and the code, and are left out here. If a reader doesn't report"
-    " its bytes, what is said of its input holds for some input.",
+    "The scan of `tacho_rules`, its passes, `tacho_periods`, `tacho_plain`, `tacho_tables`, `tacho_reading` and"
+    " `tacho_shelf` have contracts too. They lie between these calls and the code, and are left out here. If a reader"
+    " doesn't report its bytes, what is said of its input holds for some input.",
 )
 
 # Crates, each with what it is about.
