@@ -16,5 +16,5 @@ pub use duty::{duty_days, long_rests};
 pub use examined::Examined;
 pub use main_rests::{is_main, kept_minutes, touching};
 pub use portions::{is_reduced, is_regular};
-pub use room::{has_room, left_of};
+pub use room::{has_room, left_of, minutes_paid};
 pub use runs::rest_runs;

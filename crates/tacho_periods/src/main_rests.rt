@@ -5,7 +5,7 @@ ghost use Rattle.tacho_periods.specs.Rests.{AreInTime};
 ghost use Rattle.tacho_law.specs.Line.{Line};
 ghost use Rattle.tacho_law.specs.Weeks.{IsInWeek};
 ghost use Rattle.tacho_law.specs.Debts.{IsMainRest};
-ghost use Rattle.tacho_law.specs.Limits.{weekly_rest, first_week, latest};
+ghost use Rattle.tacho_law.specs.Limits.{weekly_rest, regular_weekly_rest, first_week, latest};
 ghost use Rattle.tacho_periods.specs.MainRests.{IsBetter};
 ghost use Rattle.tacho_law.specs.MainRests.{IsKept};
 
@@ -71,7 +71,8 @@ pub fn is_main(weekly: &[Run], horizon: u32, rest: Run) -> bool
 pub fn kept_minutes(weekly: &[Run], horizon: u32, rest: Run) -> u32
     requires in_time { AreInTime weekly.now }
     requires in_range { rest.start ≤ latest }
-    ensures { (line : Line) → AreRestsOf line weekly_rest weekly.now → IsRestRun line rest
+    ensures most { result ≤ regular_weekly_rest }
+    ensures kept { (line : Line) → AreRestsOf line weekly_rest weekly.now → IsRestRun line rest
         → IsKept line horizon rest result }
 {
     if is_main(weekly, horizon, rest) {

@@ -18,6 +18,18 @@ fn share_of(rest: Run, debt: &Debt) -> u32
     }
 }
 
+/// Returns how many minutes of debts a rest pays. They fit into what is examined.
+pub fn minutes_paid(rest: Run, debts: &[Debt]) -> u32
+    requires { paid_from rest debts.now ≤ latest }
+    ensures { result ≡ paid_from rest debts.now }
+{
+    let mut paid = 0;
+    for debt in debts {
+        paid += share_of(rest, debt);
+    }
+    paid
+}
+
 /// Returns what remains of `minutes` of a rest after the debts that it pays.
 pub fn left_of(minutes: u32, rest: Run, debts: &[Debt]) -> u32
     ensures { result ≡ minutes - paid_from rest debts.now }

@@ -21,7 +21,7 @@ returns-then-room-debt c = λ line are is.
       λ h. absurd (let e : false ≡ true = h in cc),
       λ h. absurd
           (let same : kept ≡ h.kept =
-          kept_only line c.args.horizon rest kept h.kept (c.kept_minutes.ensures line are is) h.keeps in
+          kept_only line c.args.horizon rest kept h.kept (c.kept_minutes.ensures.kept line are is) h.keeps in
           let room : h.kept + paid_from rest c.args.earlier.now + debt.amount
           ≤ minutes_before (min c.args.horizon debt.deadline) rest = h.room in
           omega arith),
@@ -33,7 +33,7 @@ returns c = λ line are is.
     let debt : Debt = c.args.debt.now in
     let kept : ℕ = c.kept_minutes.result in
     let paid : ℕ = paid_from rest c.args.earlier.now in
-    let keeps : IsKept line c.args.horizon rest kept = c.kept_minutes.ensures line are is in
+    let keeps : IsKept line c.args.horizon rest kept = c.kept_minutes.ensures.kept line are is in
     let end : c.min.result ≡ min c.args.horizon debt.deadline = omega arith in
     let known : c.known_minutes-minutes.result ≡ minutes_before (min c.args.horizon debt.deadline) rest =
     c.known_minutes-minutes.ensures ∙ ap (λ (m : ℕ). minutes_before m rest) end in
