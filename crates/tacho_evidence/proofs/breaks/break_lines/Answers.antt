@@ -1,0 +1,61 @@
+use Rattle.std.proofs.Common.{◌-◌, ℕ, List, get_or}
+use Rattle.tacho_law.specs.declared.run.Run.{Run}
+use Rattle.tacho_law.specs.Line.{Line, line_of}
+use Rattle.tacho_law.specs.Exactly.{AreExactly}
+use Rattle.tacho_law.specs.Runs.{AreRuns, Before}
+use Rattle.tacho_law.proofs.RunsLemmas.{rest_runs_are}
+use Rattle.tacho_periods.proofs.BreaksLemmas.{breaks_are}
+use Rattle.tacho_periods.proofs.RunsLemmas.{no_run}
+use Rattle.tacho_evidence.specs.declared.line.EvidenceLine.{EvidenceLine}
+use Rattle.tacho_evidence.specs.Driven.{AreDriven}
+use Rattle.tacho_evidence.specs.Evidence.{AreByTime, IsRestBetween}
+use Rattle.tacho_evidence.proofs.BreakLinesLemmas.{Around, around_breach, break_is, drives_rise, rests_are}
+use Rattle.tacho_evidence.proofs.breaks.break_lines.Goals as goal
+
+pub begun_by-next-requires : goal.begun_by-next-requires
+begun_by-next-requires c =
+    breaks_are c.args.runs.now c.args.breaks.now (rest_runs_are (line_of c.args.examined.now.spans.now) c.args.runs.now c.requires.runs)
+    c.requires.breaks
+
+pub bounds-breaks-next-2 : goal.bounds-breaks-next-2
+bounds-breaks-next-2 c =
+    let line : Line = line_of c.args.examined.now.spans.now in
+    let o : AreRuns c.args.breaks.now =
+    breaks_are c.args.runs.now c.args.breaks.now (rest_runs_are line c.args.runs.now c.requires.runs) c.requires.breaks in
+    (around_breach line c.args.runs.now c.args.breaks.now c.args.breach.now c.begun_by-next.result c.number.result c.requires.breach o
+    c.number.ensures.value c.begun_by-next.ensures.within c.begun_by-next.ensures.begun c.begun_by-next.ensures.later).within
+
+pub rests_between-requires : goal.rests_between-requires
+rests_between-requires c = rest_runs_are (line_of c.args.examined.now.spans.now) c.args.runs.now c.requires.runs
+
+pub append_by_time-requires-clause-drives : goal.append_by_time-requires-clause-drives
+append_by_time-requires-clause-drives c =
+    rw c.deref.ensures.value
+    (drives_rise (line_of c.args.examined.now.spans.now) _ _ c.in_ok-drives.drives.items c.in_ok-drives.ensures)
+
+pub append_by_time-requires-clause-rests : goal.append_by_time-requires-clause-rests
+append_by_time-requires-clause-rests c =
+    rw c.deref-2.ensures.value
+    (rests_are (line_of c.args.examined.now.spans.now) _ _ c.in_ok-rests.rests.items
+    (c.in_ok-rests.ensures (line_of c.args.examined.now.spans.now) c.requires.runs))
+
+pub returns : goal.returns
+returns c =
+    let line : Line = line_of c.args.examined.now.spans.now in
+    let breaks : List Run = c.args.breaks.now in
+    let n : ℕ = c.begun_by-next.result in
+    let o : AreRuns breaks =
+    breaks_are c.args.runs.now c.args.breaks.now (rest_runs_are line c.args.runs.now c.requires.runs) c.requires.breaks in
+    let a : Around breaks n c.requires.breach.earlier c.requires.breach.later =
+    around_breach line c.args.runs.now breaks c.args.breach.now n c.number.result c.requires.breach o
+    c.number.ensures.value c.begun_by-next.ensures.within c.begun_by-next.ensures.begun c.begun_by-next.ensures.later in
+    let driven : AreDriven line (get_or breaks (n - 1) no_run).past (get_or breaks n no_run).start c.in_ok-drives.drives.items =
+    c.in_ok-drives.ensures in
+    let rested : AreExactly (IsRestBetween line (get_or breaks (n - 1) no_run) (get_or breaks n no_run)) Before c.in_ok-rests.rests.items =
+    c.in_ok-rests.ensures line c.requires.runs in
+    let m : List EvidenceLine = c.in_ok-append_by_time.ensures.0 in
+    let by_time : AreByTime c.in_ok-drives.drives.items c.in_ok-rests.rests.items m =
+    rw (c.deref.ensures.value, c.deref-2.ensures.value) at c.in_ok-append_by_time.ensures.1 in
+    break_is line breaks c.args.breach.now c.requires.breach c.in_ok-drives.drives.items c.in_ok-rests.rests.items m
+    c.push-2.new.self.items (rw (a.first, a.second) at driven) (rw (a.first, a.second) at rested) by_time
+    (rw (c.in_ok-push-2.ensures.items, c.in_ok-append_by_time.ensures.2, c.in_ok-push.ensures.items, c.new-lines.ensures.items, a.first, a.second))

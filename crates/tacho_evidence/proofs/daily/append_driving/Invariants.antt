@@ -1,0 +1,6 @@
+use Rattle.std.proofs.Common.{◌≡◌, ◌++◌, map, take}
+use Rattle.tacho_evidence.specs.declared.line.EvidenceLine.TheVariants.{Drive}
+use Rattle.tacho_evidence.proofs.daily.append_driving.Given as goal
+
+abbrev pub invariant-loop-span : goal.invariant-loop-span
+invariant-loop-span l = l.lines.items ≡ l.initial.lines.items ++ map Drive (take l.span-index l.span-items)

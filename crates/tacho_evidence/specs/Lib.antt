@@ -1,0 +1,4 @@
+pub mod Driven
+pub mod Evidence
+pub mod Totals
+pub mod DaysInTime
