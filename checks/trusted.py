@@ -30,7 +30,7 @@ Order = collections.namedtuple("Order", "reader question roots left steps")
 LAWYER = Order(
     "A lawyer",
     "which rules are checked, and of which minutes? docs/RULES.md has them in prose, with the Articles",
-    ("tacho_rules::", "tacho_stretches::"),
+    ("tacho_rules::", "tacho_stretches::", "tacho_evidence::"),
     (),
     (
         ("what a report is", "tacho_rules: Report"),
@@ -41,6 +41,7 @@ LAWYER = Order(
         ("duty days, weeks, and weekly rests that are owed", "tacho_law: Days Weeks Debts"),
         ("the week in which a weekly rest is counted, and where no choice of weeks serves", "tacho_law: Choice Anew"),
         ("the breaches B1 to B10, each once, all of them and in order", "tacho_law: Breaches Exactly Order"),
+        ("the evidence for a breach: what a person needs to check it", "tacho_evidence: Driven Evidence"),
         ("where an examination begins again, and what isn't examined", "tacho_stretches: Start Stretches Ranges Near"),
         ("two laws: choices of weeks by outcomes, and payment of debts rest by rest",
          "tacho_choice: Counted Step Weeks Laws; tacho_law: ByRuns"),
