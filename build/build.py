@@ -216,10 +216,14 @@ def note(name: str, checksum: str) -> None:
 
 
 def take_from_gate() -> None:
-    """Reuses the libraries that `rt ci` has built from the present sources, as if this script had built them."""
+    """Reuses the libraries that `rt ci` has built from the present sources, as if this script had built them. Also those that the program
+    doesn't use: checks/slips.py tries the slips of the crates above them."""
     kit = Kit()
     below = lines_of_crates()
-    checksums = sums(below, needed(below, PROGRAM), kit.name)
+    order: list[str] = []
+    for name in below:
+        needed(below, name, order)
+    checksums = sums(below, order, kit.name)
     for name in checksums:
         made = os.path.join(folder_of(name), "out", "rlib", f"{name}.rlib")
         if name != PROGRAM and os.path.isdir(made) and not is_built(name, checksums[name]):
