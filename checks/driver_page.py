@@ -378,7 +378,7 @@ def plain(value: Any) -> Any:
 IS_DONE = """document.querySelector("#message") !== null && document.querySelector("#busy").textContent.indexOf("…") < 0
     && (!document.querySelector("#hours").hidden || document.querySelector("#message").textContent !== "")"""
 
-# For each text that is seen, the contrast with what is behind it. The answer has the least, and the texts below 4.5.
+# For each text that is seen, its contrast with the background. The answer has the least contrast, and the texts below 4.5.
 CONTRASTS = """(() => {
     const parts = (color) => color.match(/[0-9.]+/g).map(Number);
     const light = (color) => {
