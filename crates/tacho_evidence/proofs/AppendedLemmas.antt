@@ -1,6 +1,7 @@
 -- What a loop appends for those things of a list that have a property (`append_rests`, `append_reduced`, `append_extended`).
-use Rattle.std.proofs.Common.{◌≡◌, ℕ, ◌+◌, ◌*◌, ◌<◌, ◌≤◌, List, [], ◌∷◌, ◌++◌, length, get_or, take, map, sym, ap, subst}
+use Rattle.std.proofs.Common.{◌≡◌, ℕ, ◌+◌, ◌<◌, ◌≤◌, List, [], ◌∷◌, ◌++◌, length, get_or, take, map, sym, ap, subst}
 use Rattle.std.proofs.Common.{◌∙◌, arith, append_assoc, length-append}
+use Rattle.std.specs.Prelude.{◌↔◌}
 use Rattle.std.specs.List.{AllPairs, Contains}
 use Rattle.std.proofs.lemmas.List.{take_all, append-nil, map-append}
 use Rattle.tacho_law.specs.declared.run.Run.{Run}
@@ -97,80 +98,82 @@ extended_more line day i n (first ∷ days) e =
 abbrev pub LongWithin : DutyDay → Run → Type 0
 LongWithin day run = (day.start ≤ run.start) × (run.past ≤ day.past) × (180 ≤ minutes_of run)
 
--- the rests that are appended are those within the day
-pub rests_appended : (line : Line) (runs : List Run) (day : DutyDay) (before lines : List EvidenceLine) (count : ℕ)
-    → AreRestRuns line runs → Appended Before (LongWithin day) (map Rest) runs before lines count
-    → (rests : List Run) × AreExactly (IsRestWithin line day) Before rests × (lines ≡ before ++ map Rest rests)
-rests_appended line runs day before lines count are r = (
-  r.kept,
-  exactly_as (λ run. Contains runs run × LongWithin day run) (IsRestWithin line day) Before r.kept
-      (λ run. (
-        λ h. record { rest = record { rests = (are.each run).0 h.0; enough = h.1.2 }; after = h.1.0; before = h.1.1 },
-        λ h. ((are.each run).1 h.rest.rests, (h.after, h.before, h.rest.enough)),
-      ))
-      r.exactly,
-  r.lines_are,
-)
+-- of the rests with a minute in a day, those that are appended are those within it
+pub rests_within_are : (line : Line) (runs near : List Run) (day : DutyDay) (rests : List Run) → AreRestRuns line runs
+    → ((run : Run) → Contains near run ↔ (Contains runs run × (run.start < day.past) × (day.start < run.past)))
+    → AreExactly (λ run. Contains near run × LongWithin day run) Before rests → AreExactly (IsRestWithin line day) Before rests
+rests_within_are line runs near day rests are part =
+    exactly_as (λ run. Contains near run × LongWithin day run) (IsRestWithin line day) Before rests
+    (λ run. (
+      λ h. record {
+        rest = record { rests = (are.each run).0 ((part run).0 h.0).0; enough = h.1.2 };
+        after = h.1.0;
+        before = h.1.1;
+      },
+      λ h. (let some : run.start < run.past = h.rest.rests.some in
+          let from : day.start ≤ run.start = h.after in
+          let to : run.past ≤ day.past = h.before in (
+            (part run).1 ((are.each run).1 h.rest.rests, omega (arith, some, to), omega (arith, some, from)),
+            (h.after, h.before, h.rest.enough),
+          )),
+    ))
 
--- what `is_reduced_since` tests
-abbrev pub ReducedSince : List Run → ℕ → ℕ → DutyDay → Type 0
-ReducedSince parts since moment day = (since < day.past) × (day.past ≤ moment) × HasReducedRest parts day
-
--- the days that are appended are those with a reduced rest
-pub reduced_appended : (line : Line) (days : List DutyDay) (parts : List Run) (weekly : Run) (moment : ℕ)
+-- of the days that end in a range, those that are appended are those with a reduced rest
+pub reduced_appended : (line : Line) (days near : List DutyDay) (parts : List Run) (weekly : Run) (moment : ℕ)
     (before lines : List EvidenceLine) (count : ℕ) → AreDutyDays line days → AreRestsOf line 180 parts
-    → Appended EarlierDay (ReducedSince parts weekly.past moment) (reduced_lines 1) days before lines count
+    → ((day : DutyDay) → Contains near day ↔ (Contains days day × (weekly.past < day.past) × (day.past ≤ moment)))
+    → Appended EarlierDay (HasReducedRest parts) (reduced_lines 1) near before lines count
     → (reduced : List DutyDay) × AreExactly (IsReducedSince line weekly moment) EarlierDay reduced
     × (lines ≡ before ++ reduced_lines 1 reduced)
-reduced_appended line days parts weekly moment before lines count are rests r = (
+reduced_appended line days near parts weekly moment before lines count are rests part r = (
   r.kept,
-  exactly_as (λ day. Contains days day × ReducedSince parts weekly.past moment day) (IsReducedSince line weekly moment)
-      EarlierDay r.kept
+  exactly_as (λ day. Contains near day × HasReducedRest parts day) (IsReducedSince line weekly moment) EarlierDay r.kept
       (λ day. (
-        λ h. (let duty : IsDuty line day = (are.each day).0 h.0 in
+        λ h. (let (among, a, b) = (part day).0 h.0 in
+            let duty : IsDuty line day = (are.each day).0 among in
             let p : day.past ≡ day.rest.start = duty.past in
-            let a : weekly.past < day.past = h.1.0 in
-            let b : day.past ≤ moment = h.1.1 in
             record {
-              reduced = (reduced_by_parts line parts day rests duty).0 h.1.2;
-              after = omega arith;
-              before = omega arith;
+              reduced = (reduced_by_parts line parts day rests duty).0 h.1;
+              after = omega (arith, a, p);
+              before = omega (arith, b, p);
             }),
         λ h. (let duty : IsDuty line day = h.reduced.duty in
             let p : day.past ≡ day.rest.start = duty.past in
             let a : weekly.past < day.rest.start = h.after in
             let b : day.rest.start ≤ moment = h.before in (
-              (are.each day).1 duty,
-              (omega arith, omega arith, (reduced_by_parts line parts day rests duty).1 h.reduced),
+              (part day).1 ((are.each day).1 duty, omega (arith, a, p), omega (arith, b, p)),
+              (reduced_by_parts line parts day rests duty).1 h.reduced,
             )),
       ))
       r.exactly,
   r.lines_are,
 )
 
--- what `is_extended_between` tests
-abbrev pub ExtendedBetween : Line → ℕ → ℕ → DutyDay → Type 0
-ExtendedBetween line from to day = (from ≤ day.start) × (day.start ≤ to) × (540 < driving line day.start day.past)
+-- what makes a day of the week an extended one
+abbrev pub HasLongDriving : Line → DutyDay → Type 0
+HasLongDriving line day = 540 < driving line day.start day.past
 
--- the days that are appended are the extended ones
-pub extended_appended : (line : Line) (days : List DutyDay) (week since : ℕ) (before lines : List EvidenceLine) (count : ℕ)
-    → AreDutyDays line days → IsInWeek week since
-    → Appended EarlierDay (ExtendedBetween line (week_start week) since) (extended_lines line 1) days before lines count
+-- of the days that begin in a range, those that are appended are the extended ones
+pub extended_appended : (line : Line) (days near : List DutyDay) (week since : ℕ) (before lines : List EvidenceLine)
+    (count : ℕ) → AreDutyDays line days → IsInWeek week since
+    → ((day : DutyDay) → Contains near day ↔ (Contains days day × (week_start week ≤ day.start) × (day.start ≤ since)))
+    → Appended EarlierDay (HasLongDriving line) (extended_lines line 1) near before lines count
     → (extended : List DutyDay) × AreExactly (IsExtendedUpTo line week since) EarlierDay extended
     × (lines ≡ before ++ extended_lines line 1 extended)
-extended_appended line days week since before lines count are in' r = (
+extended_appended line days near week since before lines count are in' part r = (
   r.kept,
-  exactly_as (λ day. Contains days day × ExtendedBetween line (week_start week) since day) (IsExtendedUpTo line week since)
-      EarlierDay r.kept
+  exactly_as (λ day. Contains near day × HasLongDriving line day) (IsExtendedUpTo line week since) EarlierDay r.kept
       (λ day. (
-        λ h. (let a : 5760 + 10080 * week ≤ day.start = h.1.0 in
-            let b : day.start ≤ since = h.1.1 in
-            let d : since < 5760 + 10080 * (week + 1) = in'.1 in
+        λ h. (let (among, a, b) = (part day).0 h.0 in
+            let d : since < week_start (week + 1) = in'.1 in
             record {
-              extended = record { duty = (are.each day).0 h.0; week = (a, omega arith); over = h.1.2 };
+              extended = record { duty = (are.each day).0 among; week = (a, omega (arith, b, d)); over = h.1 };
               before = b;
             }),
-        λ h. ((are.each day).1 h.extended.duty, (h.extended.week.0, h.before, h.extended.over)),
+        λ h. (
+          (part day).1 ((are.each day).1 h.extended.duty, h.extended.week.0, h.before),
+          h.extended.over,
+        ),
       ))
       r.exactly,
   r.lines_are,

@@ -1,5 +1,5 @@
 -- The evidence for a breach B1: what has evidence is a breach, each breach has evidence, and only one (`laws::break_evidence`).
-use Rattle.std.proofs.Common.{◌≡◌, ◌≢◌, ℕ, ◌+◌, ◌<◌, ◌≤◌, ◌⊎◌, inl, inr, List, [], ◌∷◌, ◌++◌, map, refl, sym, ap}
+use Rattle.std.proofs.Common.{◌≡◌, ◌≢◌, ℕ, ◌+◌, ◌<◌, ◌≤◌, ◌⊎◌, inl, inr, List, [], ◌∷◌, ◌++◌, map, refl, sym, ap, ◌↔◌}
 use Rattle.std.proofs.Common.{subst, ◌∙◌, arith}
 use Rattle.std.specs.List.{AllPairs, Contains}
 use Rattle.std.proofs.lemmas.Bool.{cases_lt}
@@ -114,18 +114,28 @@ decide_between a b run = elim (cases_lt (minutes_of run) first_part_of_break) [
   ]
 ]
 
--- the runs of a list that are so are these rests
-pub between_of : (line : Line) (runs rests : List Run) (a b : Run) → AreRestRuns line runs
-    → AreExactly (λ run. Contains runs run × Between a b run) Before rests → AreExactly (IsRestBetween line a b) Before rests
-between_of line runs rests a b are kept =
-    exactly_as (λ run. Contains runs run × Between a b run) (IsRestBetween line a b) Before rests
+-- of the runs with a minute between the two, those that are so are these rests
+pub between_of : (line : Line) (runs near rests : List Run) (a b : Run) → AreRestRuns line runs
+    → ((run : Run) → Contains near run ↔ (Contains runs run × (run.start < b.start) × (a.past < run.past)))
+    → AreExactly (λ run. Contains near run × Between a b run) Before rests → AreExactly (IsRestBetween line a b) Before rests
+between_of line runs near rests a b are part kept =
+    exactly_as (λ run. Contains near run × Between a b run) (IsRestBetween line a b) Before rests
     (λ run. (
-      λ h. record { rest = record { rests = (are.each run).0 h.0; enough = h.1.0 }; after = h.1.1; before = h.1.2 },
-      λ h. ((are.each run).1 h.rest.rests, (h.rest.enough, h.after, h.before)),
+      λ h. record {
+        rest = record { rests = (are.each run).0 ((part run).0 h.0).0; enough = h.1.0 };
+        after = h.1.1;
+        before = h.1.2;
+      },
+      λ h. (let some : run.start < run.past = h.rest.rests.some in
+          let after : a.past < run.start = h.after in
+          let before : run.past < b.start = h.before in (
+            (part run).1 ((are.each run).1 h.rest.rests, omega (arith, some, before), omega (arith, some, after)),
+            (h.rest.enough, h.after, h.before),
+          )),
     ))
     kept
 
--- so there is a list of these rests
+-- there is a list of these rests
 rests_between : (line : Line) (runs : List Run) (a b : Run) → AreRestRuns line runs
     → (rests : List Run) × AreExactly (IsRestBetween line a b) Before rests
 rests_between line runs a b are =

@@ -143,13 +143,6 @@ drives_rise line from to spans a =
     subst (λ (xs : List DrivenSpan). AllPairs (λ (x y : DrivenSpan). x.run.start ≤ y.run.start) xs) (sym a.totals)
     (totals_rise 0 a.runs (λ run h. ((a.are.each run).0 h).some) a.are.in_order)
 
--- rests between two breaks are runs in order
-pub rests_are : (line : Line) (a b : Run) (rests : List Run) → AreExactly (IsRestBetween line a b) Before rests → AreRuns rests
-rests_are line a b rests are = record {
-  some = λ k d within. ((are.each (get_or rests k d)).0 (Contains-get_or rests k d within)).rest.rests.some;
-  in_order = are.in_order;
-}
-
 -- by the moment of the breach
 pub around_breach : (line : Line) (runs breaks : List Run) (breach : Breach) (n m : ℕ) (b : IsB1 line breaks breach) → AreRuns breaks
     → m ≡ breach.moment → n ≤ length breaks → All (λ run. run.start ≤ m) (take n breaks) → All (λ run. m < run.start) (drop n breaks)

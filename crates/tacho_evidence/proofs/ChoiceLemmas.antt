@@ -262,7 +262,7 @@ module _ (line : Line) (horizon begin : ℕ) where
   fails_at first u (inr h) f = anew h f
 
   -- the rule can't be kept from one start up to a later start
-  not_before : (a b : ℕ) → Starts a → Starts b → a < b → CanServe line a b → ⊥
+  pub not_before : (a b : ℕ) → Starts a → Starts b → a < b → CanServe line a b → ⊥
   not_before a b (inl e) (inl f) lt serves = omega arith
   not_before a b (inr h) (inl f) lt serves =
       let l : begin < a = starts_late (CanServe line) (EndedBy horizon) begin (serves_less line) a h in omega arith

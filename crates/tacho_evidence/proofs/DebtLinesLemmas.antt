@@ -21,6 +21,7 @@ use Rattle.tacho_law.specs.Runs.{minutes_of, AreRestRuns, AreRestsOf, Before, Is
 use Rattle.tacho_law.specs.Weeks.{week_start}
 use Rattle.tacho_law.proofs.DrivingLemmas.{line_from_past}
 use Rattle.tacho_law.proofs.ExactlyLemmas.{at_index, exactly_as}
+use Rattle.tacho_law.proofs.RunsLemmas.{rest_runs_are}
 use Rattle.tacho_periods.specs.Rests.{AreInTime}
 use Rattle.tacho_periods.proofs.KeptLemmas.{AreKept}
 use Rattle.tacho_evidence.specs.declared.line.EvidenceLine.{EvidenceLine}
@@ -28,7 +29,6 @@ use Rattle.tacho_evidence.specs.declared.line.EvidenceLine.TheVariants.{Main, Ow
 use Rattle.tacho_evidence.specs.Evidence.{AreRooms, IsDebtEvidence, IsLaterRest}
 use Rattle.tacho_evidence.proofs.DebtKeepLemmas.{main_of_owing}
 use Rattle.tacho_evidence.proofs.DebtLemmas.{no_rooms, owes_of}
-use Rattle.tacho_evidence.proofs.LateLinesLemmas.{runs_are}
 use Rattle.tacho_evidence.proofs.RestsLemmas.{three_ways}
 
 -- ---- rests in time
@@ -50,7 +50,7 @@ module _ (spans : List Span) (base past : ℕ) (x : IsExamined spans base past) 
   -- so its rest runs are in time
   pub runs_in_time : (runs : List Run) → AreRestRuns (line_of spans) runs → AreInTime runs
   runs_in_time runs are = record {
-    some = (runs_are (line_of spans) runs are).some;
+    some = (rest_runs_are (line_of spans) runs are).some;
     in_order = are.in_order;
     early = λ k d within.
         starts_early (get_or runs k d) (at_index (IsRestRun (line_of spans)) Before runs are k d within);

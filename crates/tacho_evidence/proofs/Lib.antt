@@ -23,3 +23,9 @@ pub mod AppendedLemmas
 pub mod DailyLinesLemmas
 pub mod LateLinesLemmas
 pub mod DebtLinesLemmas
+pub mod NearLemmas
+pub mod ChosenLemmas
+pub mod ReportAnewLemmas
+pub mod ReportLemmas
+pub mod ReportWeekLemmas
+pub mod ReportLawLemmas

@@ -1,20 +1,20 @@
-ghost use Rattle.std.specs.Prelude.{◌≡◌, ◌↔◌, ◌<◌, ◌≤◌, ◌++◌, List, All, AllPairs, IfOk, IsTrue, drop, length, map, take};
+ghost use Rattle.std.specs.Prelude.{◌≡◌, ◌↔◌, ◌<◌, ◌≤◌, ◌++◌, List, All, AllPairs, Contains, IfOk, IsTrue, drop, length, map, take};
 ghost use Rattle.tacho_law.specs.Breaches.{IsB1};
 ghost use Rattle.tacho_law.specs.Breaks.{AreCompleteBreaks};
 ghost use Rattle.tacho_law.specs.Exactly.{AreExactly};
 ghost use Rattle.tacho_law.specs.Limits.{first_part_of_break};
-ghost use Rattle.tacho_law.specs.Line.{line_of, IsExamined, Line};
+ghost use Rattle.tacho_law.specs.Line.{line_of, IsExamined};
 ghost use Rattle.tacho_law.specs.Runs.{minutes_of, AreRestRuns, AreRuns, Before};
 ghost use Rattle.tacho_evidence.specs.declared.line.EvidenceLine.{EvidenceLine as LineValue};
 ghost use Rattle.tacho_evidence.specs.declared.line.EvidenceLine.TheVariants.{Rest};
-ghost use Rattle.tacho_evidence.specs.Evidence.{AreByTime, IsBreakEvidence, IsRestBetween};
+ghost use Rattle.tacho_evidence.specs.Evidence.{AreByTime, IsBreakEvidence};
 
 use crate::driven::{DrivenSpan, driving_spans};
 use crate::line::EvidenceLine;
 use std::alloc::{AllocError, Global};
 use tacho_law::limits::FIRST_PART_OF_BREAK;
 use tacho_law::{Breach, Run};
-use tacho_periods::Examined;
+use tacho_periods::{Examined, touching};
 
 /// Returns how many of the first runs have begun by a minute. No run after them has.
 fn begun_by(runs: &[Run], minute: u32) -> usize
@@ -44,8 +44,8 @@ fn rests_between(
     later: Run,
 ) -> Result<Vec<Run>, AllocError>
     requires { AreRuns runs.now }
-    ensures { IfOk result (λ rests. (line : Line) → AreRestRuns line runs.now
-        → AreExactly (IsRestBetween line earlier later) Before rests.items) }
+    ensures { IfOk result (λ rests. AreExactly (λ run. Contains runs.now run × ((first_part_of_break ≤ minutes_of run) × Before earlier run
+        × Before run later)) Before rests.items) }
 {
     let mut rests = Vec::new(alloc);
     for run in runs {
@@ -88,7 +88,7 @@ fn append_by_time(
 }
 
 /// Lists the evidence for a breach B1, from the rest runs and the complete breaks of the examined line.
-pub fn break_lines(
+pub(crate) fn break_lines(
     alloc: Global,
     examined: &Examined<'_>,
     runs: &[Run],
@@ -107,7 +107,8 @@ pub fn break_lines(
     let base = examined.base.number();
     let past = examined.past.number();
     let drives = driving_spans(alloc, examined.spans, base, past, earlier.past, later.start)?;
-    let rests = rests_between(alloc, runs, earlier, later)?;
+    let near = touching(runs, earlier.past, later.start);
+    let rests = rests_between(alloc, near, earlier, later)?;
     let mut lines = Vec::new(alloc);
     lines.push(EvidenceLine::Break(earlier))?;
     append_by_time(&mut lines, &drives, &rests)?;

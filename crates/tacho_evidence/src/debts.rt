@@ -14,9 +14,9 @@ ghost use Rattle.tacho_evidence.specs.Evidence.{AreRooms, IsDebtEvidence};
 
 use crate::line::EvidenceLine;
 use std::alloc::{AllocError, Global};
-use tacho_law::limits::{DAILY_REST, WEEKLY_REST};
+use tacho_law::limits::DAILY_REST;
 use tacho_law::{Breach, Debt, Run, known_minutes};
-use tacho_periods::{Examined, is_main, kept_minutes, long_rests, minutes_paid, touching};
+use tacho_periods::{Examined, is_main, kept_minutes, minutes_paid, touching};
 use tacho_time::{Week, first_minute, next_week, week_of};
 
 /// Returns how many debts are of earlier weeks than a week: the place of the week's own debt, if it has one.
@@ -88,16 +88,18 @@ fn append_rooms(
     Ok(())
 }
 
-/// Lists the evidence for a breach B10, from the rest runs of the examined line and its debts up to its horizon.
-pub fn debt_lines(
+/// Lists the evidence for a breach B10, from the rest runs and the weekly rests of the examined line and its debts up to its horizon.
+pub(crate) fn debt_lines(
     alloc: Global,
     examined: &Examined<'_>,
     runs: &[Run],
+    weekly: &[Run],
     debts: &[Debt],
     breach: &Breach,
 ) -> Result<Vec<EvidenceLine>, AllocError>
     requires examined { IsExamined examined.now.spans.now examined.now.base examined.now.past }
     requires runs { AreRestRuns (line_of examined.now.spans.now) runs.now }
+    requires weekly { AreRestsOf (line_of examined.now.spans.now) weekly_rest weekly.now }
     requires debts { AreDebts (line_of examined.now.spans.now) examined.now.past debts.now }
     requires breach { IsB10 examined.now.past debts.now breach.now }
     ensures { IfOk result (λ lines. IsDebtEvidence (line_of examined.now.spans.now) examined.now.past debts.now breach.now lines.items) }
@@ -106,9 +108,8 @@ pub fn debt_lines(
     let deadline = breach.moment.number();
     let week = week_of(breach.since);
     let older = &debts[..place_of(debts, week)];
-    let weekly = long_rests(alloc, runs, WEEKLY_REST)?;
     // The week owes what its main rest lacks, so it has one.
-    let Some(main) = main_of(&weekly, horizon, week) else {
+    let Some(main) = main_of(weekly, horizon, week) else {
         unreachable!()
     };
     let mut lines = Vec::new(alloc);
@@ -120,7 +121,7 @@ pub fn debt_lines(
     lines.push(EvidenceLine::Main(main))?;
     append_rooms(
         &mut lines,
-        &weekly,
+        weekly,
         horizon,
         older,
         deadline,

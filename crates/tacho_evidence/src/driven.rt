@@ -50,7 +50,7 @@ fn append(driven: &mut Vec<DrivenSpan>, start: u32, past: u32) -> Result<(), All
 
 /// Lists the driving spans of a range of the examined line, in order of time. `spans` are the line's, from its base to its horizon; the range
 /// goes from a minute to before another.
-pub fn driving_spans(
+pub(crate) fn driving_spans(
     alloc: Global,
     spans: &[Span],
     base: u32,

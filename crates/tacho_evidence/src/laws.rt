@@ -1,7 +1,8 @@
 //! Laws about evidence. A law is a function without a body: its `ensures` clause is proved, and holds for all values that it names.
 
-ghost use Rattle.std.specs.Prelude.{◌≡◌, ℕ, ◌↔◌, List};
+ghost use Rattle.std.specs.Prelude.{◌≡◌, ℕ, ◌↔◌, Contains, List};
 ghost use Rattle.tacho_time.specs.declared.span.Activity.{Activity as ActivityValue};
+ghost use Rattle.tacho_time.specs.declared.span.Span.{Span as Stretch};
 ghost use Rattle.tacho_law.specs.declared.run.Run.{Run as RunValue};
 ghost use Rattle.tacho_law.specs.declared.breach.Breach.{Breach as BreachValue};
 ghost use Rattle.tacho_law.specs.Breaches.{IsB1, IsB2, IsB3, IsB4, IsB5, IsB6, IsB7, IsB8, IsB9, IsB10};
@@ -10,11 +11,13 @@ ghost use Rattle.tacho_law.specs.declared.debt.Debt.{Debt as DebtValue};
 ghost use Rattle.tacho_law.specs.Debts.{AreDebts};
 ghost use Rattle.tacho_law.specs.Weeks.{IsWeeklyRest, Touches};
 ghost use Rattle.tacho_law.specs.Driving.{driving, IsDrivingAbove};
+ghost use Rattle.tacho_law.specs.Line.{line_of, IsExamined};
 ghost use Rattle.tacho_law.specs.Runs.{AreRestRuns};
 ghost use Rattle.tacho_evidence.specs.declared.driven.DrivenSpan.{DrivenSpan as DrivenSpanValue};
 ghost use Rattle.tacho_evidence.specs.declared.line.EvidenceLine.{EvidenceLine as LineValue};
 ghost use Rattle.tacho_evidence.specs.Driven.{total_of, AreDriven, IsAboveByTotals};
 ghost use Rattle.tacho_evidence.specs.Evidence.{IsBreakEvidence, IsChoiceEvidence, IsDailyRestEvidence, IsDayEvidence, IsDebtEvidence, IsExtendedEvidence, IsLateEvidence, IsReducedEvidence, IsTwoWeeksEvidence, IsWeekEvidence};
+ghost use Rattle.tacho_evidence.specs.OfReport.{AreJudged, IsEvidence};
 
 /// A range has one list of driving spans with their totals.
 pub fn one_list_of_driving_spans()
@@ -66,8 +69,7 @@ pub fn daily_rest_evidence()
 pub fn reduced_evidence()
     ensures sound { (line : ℕ → ActivityValue) (breach : BreachValue) (lines : List LineValue)
         → IsReducedEvidence line breach lines → IsB3 line breach }
-    ensures whole { (line : ℕ → ActivityValue) (runs : List RunValue) (breach : BreachValue) → AreRestRuns line runs
-        → IsB3 line breach → (lines : List LineValue) × IsReducedEvidence line breach lines }
+    ensures whole { (line : ℕ → ActivityValue) (breach : BreachValue) → IsB3 line breach → (lines : List LineValue) × IsReducedEvidence line breach lines }
     ensures one { (line : ℕ → ActivityValue) (runs : List RunValue) (breach : BreachValue) (lines others : List LineValue)
         → AreRestRuns line runs
         → IsReducedEvidence line breach lines → IsReducedEvidence line breach others → lines ≡ others }
@@ -88,8 +90,7 @@ pub fn day_evidence()
 pub fn extended_evidence()
     ensures sound { (line : ℕ → ActivityValue) (breach : BreachValue) (lines : List LineValue)
         → IsExtendedEvidence line breach lines → IsB5 line breach }
-    ensures whole { (line : ℕ → ActivityValue) (runs : List RunValue) (breach : BreachValue) → AreRestRuns line runs
-        → IsB5 line breach → (lines : List LineValue) × IsExtendedEvidence line breach lines }
+    ensures whole { (line : ℕ → ActivityValue) (breach : BreachValue) → IsB5 line breach → (lines : List LineValue) × IsExtendedEvidence line breach lines }
     ensures one { (line : ℕ → ActivityValue) (runs : List RunValue) (breach : BreachValue) (lines others : List LineValue)
         → AreRestRuns line runs
         → IsExtendedEvidence line breach lines → IsExtendedEvidence line breach others → lines ≡ others }
@@ -99,10 +100,8 @@ pub fn extended_evidence()
 pub fn week_evidence()
     ensures sound { (line : ℕ → ActivityValue) (breach : BreachValue) (lines : List LineValue)
         → IsWeekEvidence line breach lines → IsB6 line breach }
-    ensures whole { (line : ℕ → ActivityValue) (runs : List RunValue) (breach : BreachValue) → AreRestRuns line runs
-        → IsB6 line breach → (lines : List LineValue) × IsWeekEvidence line breach lines }
-    ensures one { (line : ℕ → ActivityValue) (runs : List RunValue) (breach : BreachValue) (lines others : List LineValue)
-        → AreRestRuns line runs
+    ensures whole { (line : ℕ → ActivityValue) (breach : BreachValue) → IsB6 line breach → (lines : List LineValue) × IsWeekEvidence line breach lines }
+    ensures one { (line : ℕ → ActivityValue) (breach : BreachValue) (lines others : List LineValue)
         → IsWeekEvidence line breach lines → IsWeekEvidence line breach others → lines ≡ others }
 {}
 
@@ -110,10 +109,8 @@ pub fn week_evidence()
 pub fn two_weeks_evidence()
     ensures sound { (line : ℕ → ActivityValue) (breach : BreachValue) (lines : List LineValue)
         → IsTwoWeeksEvidence line breach lines → IsB7 line breach }
-    ensures whole { (line : ℕ → ActivityValue) (runs : List RunValue) (breach : BreachValue) → AreRestRuns line runs
-        → IsB7 line breach → (lines : List LineValue) × IsTwoWeeksEvidence line breach lines }
-    ensures one { (line : ℕ → ActivityValue) (runs : List RunValue) (breach : BreachValue) (lines others : List LineValue)
-        → AreRestRuns line runs
+    ensures whole { (line : ℕ → ActivityValue) (breach : BreachValue) → IsB7 line breach → (lines : List LineValue) × IsTwoWeeksEvidence line breach lines }
+    ensures one { (line : ℕ → ActivityValue) (breach : BreachValue) (lines others : List LineValue)
         → IsTwoWeeksEvidence line breach lines → IsTwoWeeksEvidence line breach others → lines ≡ others }
 {}
 
@@ -121,8 +118,7 @@ pub fn two_weeks_evidence()
 pub fn late_evidence()
     ensures sound { (line : ℕ → ActivityValue) (breach : BreachValue) (lines : List LineValue)
         → IsLateEvidence line breach lines → IsB8 line breach }
-    ensures whole { (line : ℕ → ActivityValue) (runs : List RunValue) (breach : BreachValue) → AreRestRuns line runs
-        → IsB8 line breach → (lines : List LineValue) × IsLateEvidence line breach lines }
+    ensures whole { (line : ℕ → ActivityValue) (breach : BreachValue) → IsB8 line breach → (lines : List LineValue) × IsLateEvidence line breach lines }
     ensures one { (line : ℕ → ActivityValue) (runs : List RunValue) (breach : BreachValue) (lines others : List LineValue)
         → AreRestRuns line runs
         → IsLateEvidence line breach lines → IsLateEvidence line breach others → lines ≡ others }
@@ -148,5 +144,21 @@ pub fn debt_evidence()
         → IsB10 horizon debts breach → (lines : List LineValue) × IsDebtEvidence line horizon debts breach lines }
     ensures one { (line : ℕ → ActivityValue) (horizon : ℕ) (debts : List DebtValue) (breach : BreachValue) (lines others : List LineValue)
         → AreDebts line horizon debts → IsDebtEvidence line horizon debts breach lines → IsDebtEvidence line horizon debts breach others
+        → lines ≡ others }
+{}
+
+/// Evidence is always of a breach of the report, and each breach of the report has exactly one list of evidence.
+pub fn evidence_of_reports()
+    ensures sound { (spans : List Stretch) (base horizon : ℕ) (found : List BreachValue) (debts : List DebtValue) (breach : BreachValue)
+        (lines : List LineValue)
+        → IsExamined spans base horizon → AreJudged (line_of spans) base horizon found debts
+        → IsEvidence (line_of spans) base horizon debts breach lines → Contains found breach }
+    ensures whole { (spans : List Stretch) (base horizon : ℕ) (found : List BreachValue) (debts : List DebtValue) (breach : BreachValue)
+        → IsExamined spans base horizon → AreJudged (line_of spans) base horizon found debts
+        → Contains found breach → (lines : List LineValue) × IsEvidence (line_of spans) base horizon debts breach lines }
+    ensures one { (spans : List Stretch) (base horizon : ℕ) (found : List BreachValue) (debts : List DebtValue) (breach : BreachValue)
+        (lines others : List LineValue)
+        → IsExamined spans base horizon → AreJudged (line_of spans) base horizon found debts
+        → IsEvidence (line_of spans) base horizon debts breach lines → IsEvidence (line_of spans) base horizon debts breach others
         → lines ≡ others }
 {}

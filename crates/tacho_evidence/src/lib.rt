@@ -2,18 +2,17 @@
 #![tactic(auto)]
 
 mod breaks;
+mod choice;
 mod daily;
 mod debts;
 mod driven;
 mod late;
 pub mod laws;
 mod line;
+mod periods;
+mod report;
 mod weeks;
 
-pub use breaks::break_lines;
-pub use daily::{daily_rest_lines, day_lines, extended_lines, reduced_lines};
-pub use debts::debt_lines;
-pub use driven::{DrivenSpan, driving_spans};
-pub use late::late_lines;
+pub use driven::DrivenSpan;
 pub use line::EvidenceLine;
-pub use weeks::{two_weeks_lines, week_lines};
+pub use report::{Evidence, evidence_within};

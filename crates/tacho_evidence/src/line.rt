@@ -49,7 +49,8 @@ pub enum EvidenceLine {
         start: u32,
         past: u32,
         drive: u32,
-    }, /// The week from which the choice of a week for each weekly rest was made anew.
+    },
+    /// The week from which the choice of a week for each weekly rest was made anew.
     From(u32),
     /// A week that is wholly at rest.
     WeekAtRest(u32),

@@ -105,7 +105,7 @@ fn append_dates(
 }
 
 /// Lists the evidence for a breach B6.
-pub fn week_lines(
+pub(crate) fn week_lines(
     alloc: Global,
     examined: &Examined<'_>,
     breach: &Breach,
@@ -150,7 +150,7 @@ fn append_week(
 }
 
 /// Lists the evidence for a breach B7.
-pub fn two_weeks_lines(
+pub(crate) fn two_weeks_lines(
     alloc: Global,
     examined: &Examined<'_>,
     breach: &Breach,

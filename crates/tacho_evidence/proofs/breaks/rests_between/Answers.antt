@@ -4,7 +4,7 @@ use Rattle.tacho_law.specs.declared.run.Run.{Run}
 use Rattle.tacho_law.specs.Runs.{Before}
 use Rattle.tacho_periods.proofs.KeptLemmas.{AreKept, kept_none, kept_add_at, kept_skip_at}
 use Rattle.tacho_periods.proofs.RunsLemmas.{no_run}
-use Rattle.tacho_evidence.proofs.BreakLemmas.{Between, between_of}
+use Rattle.tacho_evidence.proofs.BreakLemmas.{Between}
 use Rattle.tacho_evidence.proofs.breaks.rests_between.Goals as goal
 use Rattle.tacho_evidence.proofs.breaks.rests_between.Goals.{then-is_between+in_ok-push, else-is_between}
 
@@ -31,6 +31,5 @@ pub returns : goal.returns
 returns c =
     let e : take c.loop-run.run-index c.args.runs.now ≡ c.args.runs.now =
     take_all c.loop-run.run-index c.args.runs.now c.loop-run-test.false in
-    λ line are. between_of line c.args.runs.now c.loop-run.rests.items c.args.earlier c.args.later are
-    (subst (λ (seen : List Run). AreKept Run Before (Between c.args.earlier c.args.later) seen c.loop-run.rests.items)
-    e c.loop-run.invariant)
+    subst (λ (seen : List Run). AreKept Run Before (Between c.args.earlier c.args.later) seen c.loop-run.rests.items)
+    e c.loop-run.invariant

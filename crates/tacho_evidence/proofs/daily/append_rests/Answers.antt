@@ -4,7 +4,7 @@ use Rattle.tacho_law.specs.Runs.{Before}
 use Rattle.tacho_evidence.specs.declared.line.EvidenceLine.{EvidenceLine}
 use Rattle.tacho_evidence.specs.declared.line.EvidenceLine.TheVariants.{Rest}
 use Rattle.tacho_evidence.proofs.AppendedLemmas.{LongWithin, appended_none, appended_add, appended_skip, appended_all}
-use Rattle.tacho_evidence.proofs.AppendedLemmas.{rests_more, rests_appended}
+use Rattle.tacho_evidence.proofs.AppendedLemmas.{rests_more}
 use Rattle.tacho_evidence.proofs.DaysInTimeLemmas.{no_run}
 use Rattle.tacho_evidence.proofs.daily.append_rests.Goals as goal
 use Rattle.tacho_evidence.proofs.daily.append_rests.Goals.{then-is_rest_within+in_ok-push, else-is_rest_within}
@@ -37,8 +37,8 @@ loop-run-preserved c =
     ]
 
 pub returns : goal.returns
-returns c = λ line are.
+returns c =
     let (count, seen) = c.loop-run.invariant in
-    rests_appended line c.args.runs.now c.args.day c.args.lines.now.items c.loop-run.lines.items count are
-    (appended_all Before (LongWithin c.args.day) (map Rest) c.args.lines.now.items c.args.runs.now
-    c.loop-run.run-index c.loop-run.lines.items count c.loop-run-test.false seen)
+    let all = appended_all Before (LongWithin c.args.day) (map Rest) c.args.lines.now.items c.args.runs.now
+    c.loop-run.run-index c.loop-run.lines.items count c.loop-run-test.false seen in
+    (all.kept, all.exactly, all.lines_are)

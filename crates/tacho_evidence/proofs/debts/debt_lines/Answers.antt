@@ -6,20 +6,14 @@ use Rattle.tacho_law.specs.Debts.{paid_from, IsMainRest}
 use Rattle.tacho_law.specs.Weeks.{week_start}
 use Rattle.tacho_evidence.specs.declared.line.EvidenceLine.TheVariants.{Main, Owes as OwesLine}
 use Rattle.tacho_law.specs.Line.{line_of, Line}
-use Rattle.tacho_law.specs.Runs.{AreRestsOf}
 use Rattle.tacho_evidence.proofs.DebtLinesLemmas.{debt_evidence_of, ends_in_time, first_lines, lines_as, main_as, paid_within}
 use Rattle.tacho_evidence.proofs.DebtLinesLemmas.{part_in_time, rests_in_time, runs_in_time, unpaid_of, week_is, HaveLines, IsUnpaid}
-use Rattle.tacho_evidence.proofs.LateLinesLemmas.{runs_are}
 use Rattle.tacho_evidence.proofs.debts.debt_lines.Goals as goal
-
-pub long_rests-requires : goal.long_rests-requires
-long_rests-requires c = runs_are (line_of c.args.examined.now.spans.now) c.args.runs.now c.requires.runs
 
 pub main_of-requires-clause-in_time : goal.main_of-requires-clause-in_time
 main_of-requires-clause-in_time c =
-    rw c.deref.ensures.value
-    (rests_in_time c.args.examined.now.spans.now c.args.examined.now.base c.args.examined.now.past c.requires.examined 1440
-    c.in_ok-weekly.weekly.items (c.in_ok-weekly.ensures (line_of c.args.examined.now.spans.now) c.requires.runs))
+    rests_in_time c.args.examined.now.spans.now c.args.examined.now.base c.args.examined.now.past c.requires.examined 1440
+    c.args.weekly.now c.requires.weekly
 
 pub unreachable-requires : goal.unreachable-requires
 unreachable-requires c =
@@ -30,9 +24,7 @@ unreachable-requires c =
     let week : c.week_of-week.result ≡ u.debt.week =
     week_is line horizon c.args.debts.now c.args.breach.now u c.week_of-week.result c.week_of-week.ensures.from
     c.week_of-week.ensures.before in
-    let weekly : AreRestsOf line 1440 c.deref.result.now =
-    rw c.deref.ensures.value (c.in_ok-weekly.ensures line c.requires.runs) in
-    c.in_default.ensures line weekly u.owes.main
+    c.in_default.ensures line c.requires.weekly u.owes.main
     (main_as line horizon c.number-horizon.result u.debt.week c.week_of-week.result u.owes.main
     (sym c.number-horizon.ensures.value) (sym week) u.owes.is)
 
@@ -50,11 +42,9 @@ touching-requires-clause-range c =
     let u : IsUnpaid line horizon debts breach = unpaid_of line horizon debts breach c.requires.debts c.requires.breach in
     let week : c.week_of-week.result ≡ u.debt.week =
     week_is line horizon debts breach u c.week_of-week.result c.week_of-week.ensures.from c.week_of-week.ensures.before in
-    let weekly : AreRestsOf line 1440 c.deref.result.now =
-    rw c.deref.ensures.value (c.in_ok-weekly.ensures line c.requires.runs) in
     let is : IsMainRest line horizon u.debt.week c.in-Some.main =
     main_as line c.number-horizon.result horizon c.week_of-week.result u.debt.week c.in-Some.main
-    c.number-horizon.ensures.value week (c.in-Some.ensures line weekly) in
+    c.number-horizon.ensures.value week (c.in-Some.ensures line c.requires.weekly) in
     let due : c.number-deadline.result ≡ u.debt.deadline = c.number-deadline.ensures.value ∙ u.moment in
     let ends : c.in-Some.main.past ≤ u.debt.deadline =
     ends_in_time line c.args.runs.now c.requires.runs horizon debts breach u c.in-Some.main is in
@@ -62,9 +52,8 @@ touching-requires-clause-range c =
 
 pub append_rooms-requires-clause-in_time : goal.append_rooms-requires-clause-in_time
 append_rooms-requires-clause-in_time c =
-    rw c.deref-2.ensures.value
-    (rests_in_time c.args.examined.now.spans.now c.args.examined.now.base c.args.examined.now.past c.requires.examined 1440
-    c.in_ok-weekly.weekly.items (c.in_ok-weekly.ensures (line_of c.args.examined.now.spans.now) c.requires.runs))
+    rests_in_time c.args.examined.now.spans.now c.args.examined.now.base c.args.examined.now.past c.requires.examined 1440
+    c.args.weekly.now c.requires.weekly
 
 pub append_rooms-requires-clause-rests : goal.append_rooms-requires-clause-rests
 append_rooms-requires-clause-rests c =
@@ -97,14 +86,10 @@ returns c =
     let u : IsUnpaid line horizon debts breach = unpaid_of line horizon debts breach c.requires.debts c.requires.breach in
     let week : c.week_of-week.result ≡ u.debt.week =
     week_is line horizon debts breach u c.week_of-week.result c.week_of-week.ensures.from c.week_of-week.ensures.before in
-    let weekly : AreRestsOf line 1440 c.deref.result.now =
-    rw c.deref.ensures.value (c.in_ok-weekly.ensures line c.requires.runs) in
     let is : IsMainRest line horizon u.debt.week c.in-Some.main =
     main_as line c.number-horizon.result horizon c.week_of-week.result u.debt.week c.in-Some.main
-    c.number-horizon.ensures.value week (c.in-Some.ensures line weekly) in
+    c.number-horizon.ensures.value week (c.in-Some.ensures line c.requires.weekly) in
     let due : c.number-deadline.result ≡ u.debt.deadline = c.number-deadline.ensures.value ∙ u.moment in
-    let weekly' : AreRestsOf line 1440 c.deref-2.result.now =
-    rw c.deref-2.ensures.value (c.in_ok-weekly.ensures line c.requires.runs) in
     let place : c.place_of.result ≡ u.place = c.place_of.ensures u.place u.debt u.this (sym week) in
     let rests : List Run = c.touching.result.now in
     let started : c.push-2.new.self.items ≡ OwesLine breach.since breach.amount breach.moment ∷ (Main c.in-Some.main ∷ []) =
@@ -115,7 +100,7 @@ returns c =
       c.number.ensures.value,
       c.number-deadline.ensures.value,
     ) refl in
-    let found = c.in_ok-append_rooms.ensures line weekly' (λ run h.
+    let found = c.in_ok-append_rooms.ensures line c.requires.weekly (λ run h.
     (c.requires.runs.each run).0 ((c.touching.ensures.each run).0 h).0) in
     let have : HaveLines line c.number-horizon.result (take c.place_of.result debts) c.number-deadline.result rests
     c.push-2.new.self.items c.append_rooms.new.lines.items =

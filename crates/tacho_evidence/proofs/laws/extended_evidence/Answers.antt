@@ -6,7 +6,7 @@ pub returns-clause-sound : goal.returns-clause-sound
 returns-clause-sound c = extended_sound
 
 pub returns-clause-whole : goal.returns-clause-whole
-returns-clause-whole c = λ line runs breach are. extended_whole driven_exist line breach
+returns-clause-whole c = extended_whole driven_exist
 
 pub returns-clause-one : goal.returns-clause-one
 returns-clause-one c = extended_one

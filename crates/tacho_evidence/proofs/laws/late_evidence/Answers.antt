@@ -5,7 +5,7 @@ pub returns-clause-sound : goal.returns-clause-sound
 returns-clause-sound c = late_sound
 
 pub returns-clause-whole : goal.returns-clause-whole
-returns-clause-whole c = λ line runs breach are. late_whole line breach
+returns-clause-whole c = late_whole
 
 pub returns-clause-one : goal.returns-clause-one
 returns-clause-one c = late_one

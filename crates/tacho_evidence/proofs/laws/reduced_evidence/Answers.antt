@@ -5,7 +5,7 @@ pub returns-clause-sound : goal.returns-clause-sound
 returns-clause-sound c = reduced_sound
 
 pub returns-clause-whole : goal.returns-clause-whole
-returns-clause-whole c = λ line runs breach are. reduced_whole line breach
+returns-clause-whole c = reduced_whole
 
 pub returns-clause-one : goal.returns-clause-one
 returns-clause-one c = reduced_one
