@@ -16,3 +16,6 @@ pub mod FilledLemmas
 pub mod FilledTextLemmas
 pub mod ChartLemmas
 mod PageFacts
+pub mod EvidenceLemmas
+pub mod WhyLemmas
+pub mod WhyLawLemmas

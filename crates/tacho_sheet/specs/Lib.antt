@@ -13,3 +13,6 @@ pub mod Months
 pub mod Form
 pub mod Chart
 pub mod Seen
+pub mod Evidence
+pub mod Why
+pub mod Written

@@ -9,10 +9,11 @@ ghost use Rattle.tacho_law.specs.declared.breach.Breach.{Breach as BreachValue};
 ghost use Rattle.tacho_law.specs.declared.breach.Kind.{Kind as KindValue};
 ghost use Rattle.tacho_line.specs.Line.{mark_at, AgreeWithin, AreGaps, HoldsWithin, InGaps, IsWithin};
 ghost use Rattle.tacho_stretches.specs.Start.{IsEndOfHeld};
-ghost use Rattle.tacho_stretches.specs.Stretches.{Judged};
+ghost use Rattle.tacho_stretches.specs.Stretches.{AreAll, Judged};
 ghost use Rattle.tacho_sheet.specs.Reports.{columns, count_from, kind_name, column_minutes, AgreeIn, IsGapText, IsMonthSheet, IsSpanCsv};
 ghost use Rattle.tacho_sheet.specs.Months.{article, is_examined, kind_code, AreIncidentRows, IsOverviewRow};
 ghost use Rattle.tacho_sheet.specs.Chart.{AreDayGroups, AreUnseen, HasDayGroup, IsMonthChart, ShowsMinute};
+ghost use Rattle.tacho_sheet.specs.Why.{IsMonthWhy};
 ghost use Rattle.tacho_time.specs.Spans.{IsCanonicalOf};
 ghost use Rattle.tacho_sheet.specs.Form.{AreRows as AreFormRows, Fills, filled_form, IsForm};
 ghost use Rattle.tacho_state.specs.Batch.{Hours, batch_of};
@@ -143,6 +144,12 @@ pub fn a_chart_shows_each_minute()
         → (m : ℕ) → IsWithin (1440 * day) (1440 * (day + 1)) m → ShowsMinute spans m (mark_at line m) }
     ensures shades { (stretches : List Judged) (gaps : List Gap) (start past : ℕ) → AreUnseen stretches start past gaps
         → (m : ℕ) → IsWithin start past m → InGaps gaps m ↔ (is_examined stretches m ≡ false) }
+{}
+
+/// What is held has exactly one text of the evidence for a month's breaches, for its stretches.
+pub fn one_why_of_a_month()
+    ensures { (held : List SpanValue) (end month : ℕ) (stretches : List Judged) (a b : List ℕ) → AreAll held end stretches
+        → IsMonthWhy held stretches month a → IsMonthWhy held stretches month b → a ≡ b }
 {}
 
 /// Once the hours that fill in each row of a form are entered, no gap remains.

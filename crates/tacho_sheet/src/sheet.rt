@@ -155,7 +155,7 @@ fn push_two_digits(text: &mut String, number: u32) -> Result<(), AllocError>
 }
 
 /// The digit of a number below ten.
-fn digit_of(number: u32) -> char
+pub(crate) fn digit_of(number: u32) -> char
     requires { number < 10 }
     ensures digit { result ≡ 48 + number }
     ensures ascii { result < 128 }
