@@ -68,6 +68,9 @@ chart = refl
 breaches : act_named (codes "breaches") subcommands ≡ Some (act.AtDesk (want.Reading reading.Breaches))
 breaches = refl
 
+why : act_named (codes "why") subcommands ≡ Some (act.AtDesk (want.MonthReading month.Why))
+why = refl
+
 owed : act_named (codes "owed") subcommands ≡ Some (act.AtDesk (want.Reading reading.Owed))
 owed = refl
 
@@ -113,7 +116,7 @@ all_given : map given subcommands
     ≡ codes "dump" ∷ codes "holder" ∷ codes "card part" ∷ codes "init archive" ∷ codes "migrate archive" ∷ codes "register archive"
     ∷ codes "import archive part" ∷ codes "enter archive driver" ∷ codes "withdraw archive driver number" ∷ codes "base archive driver date"
     ∷ codes "spans archive driver month" ∷ codes "gaps archive driver month" ∷ codes "sheet archive driver month" ∷ codes "chart archive driver month"
-    ∷ codes "breaches archive driver" ∷ codes "owed archive driver" ∷ codes "entries archive driver"
+    ∷ codes "breaches archive driver" ∷ codes "why archive driver month" ∷ codes "owed archive driver" ∷ codes "entries archive driver"
     ∷ codes "file archive driver number" ∷ codes "files archive driver" ∷ codes "drivers archive" ∷ codes "stretches archive driver" ∷ codes "debts archive driver"
     ∷ codes "overview archive month" ∷ codes "incidents archive month" ∷ codes "form archive driver"
     ∷ codes "serve archive key port count" ∷ []

@@ -58,6 +58,7 @@ subcommands =
     ∷ (codes "sheet", codes "archive" ∷ codes "driver" ∷ codes "month" ∷ [], act.AtDesk (want.MonthReading month.Sheet))
     ∷ (codes "chart", codes "archive" ∷ codes "driver" ∷ codes "month" ∷ [], act.AtDesk (want.MonthReading month.Chart))
     ∷ (codes "breaches", codes "archive" ∷ codes "driver" ∷ [], act.AtDesk (want.Reading reading.Breaches))
+    ∷ (codes "why", codes "archive" ∷ codes "driver" ∷ codes "month" ∷ [], act.AtDesk (want.MonthReading month.Why))
     ∷ (codes "owed", codes "archive" ∷ codes "driver" ∷ [], act.AtDesk (want.Reading reading.Owed))
     ∷ (codes "entries", codes "archive" ∷ codes "driver" ∷ [], act.AtDesk (want.Reading reading.Entries))
     ∷ (codes "file", codes "archive" ∷ codes "driver" ∷ codes "number" ∷ [], act.AtDesk want.File)

@@ -40,7 +40,7 @@ impl From<AllocError> for Usage {
 type Row = (&'static str, &'static str, &'static [&'static str], Act);
 
 /// The subcommands.
-static TABLE: [Row; 26] = [
+static TABLE: [Row; 27] = [
     (
         "dump",
         "Prints the spans of the value of an EF Driver_Activity_Data (0504), a line each: tacho dump < FILE",
@@ -130,6 +130,12 @@ static TABLE: [Row; 26] = [
         "Prints the breaches of the rules on driving and rest hours",
         &["archive", "driver"],
         Act::AtDesk(Want::Reading(Reading::Breaches)),
+    ),
+    (
+        "why",
+        "Prints the breaches of a driver's month, each with the evidence for it",
+        &["archive", "driver", "month"],
+        Act::AtDesk(Want::MonthReading(MonthReading::Why)),
     ),
     (
         "owed",

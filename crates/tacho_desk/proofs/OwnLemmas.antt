@@ -8,7 +8,7 @@ use Rattle.tacho_law.specs.declared.breach.Breach.{Breach}
 use Rattle.tacho_law.specs.declared.debt.Debt.{Debt}
 use Rattle.tacho_time.specs.declared.span.Span.{Span}
 use Rattle.tacho_rules.specs.Report.{IsReport}
-use Rattle.tacho_stretches.specs.Stretches.{AreStretches, Judged}
+use Rattle.tacho_stretches.specs.Stretches.{AreAll, AreStretches, Judged}
 use Rattle.tacho_stretches.proofs.LawLemmas.{one_end}
 use Rattle.tacho_state.specs.Batch.{batch_of}
 use Rattle.tacho_state.specs.Content.{FileTells, part_number}
@@ -25,6 +25,7 @@ use Rattle.tacho_sheet.specs.Form.{IsForm}
 use Rattle.tacho_sheet.specs.Stretches.{debt_text, stretch_text}
 use Rattle.tacho_sheet.specs.Chart.{IsMonthChart}
 use Rattle.tacho_sheet.specs.Reports.{IsGapText, IsMonthSheet, IsSpanCsv, breach_text, owed_text}
+use Rattle.tacho_sheet.specs.Why.{IsMonthWhy}
 use Rattle.tacho_sheet.specs.declared.fault.SheetFault.{SheetFault}
 use Rattle.tacho_desk.specs.Doing.{Doing, IsText, IsTextOf, Lists, Shows, Steps, in_words}
 use Rattle.tacho_desk.specs.Own.{OneAnswer, OthersStay, RefusalsStay, SameAnswers}
@@ -78,6 +79,7 @@ month_stays month.Spans m n s answer after h = h.1
 month_stays month.Gaps m n s answer after h = h.1
 month_stays month.Sheet m n s answer after h = h.1
 month_stays month.Chart m n s answer after h = h.1
+month_stays month.Why m n s answer after h = h.1
 
 -- nor does a reading of a month of all drivers
 all_stays : (text : MonthOfAll) (month : ℕ) (s : State) (answer : Answer) (after : State) → ShowsMonthOfAll text month s answer after
@@ -243,6 +245,7 @@ month_same month.Spans m n s other e answer after h = shows_same _ n s other e a
 month_same month.Gaps m n s other e answer after h = shows_same _ n s other e answer after h
 month_same month.Sheet m n s other e answer after h = shows_same _ n s other e answer after h
 month_same month.Chart m n s other e answer after h = shows_same _ n s other e answer after h
+month_same month.Why m n s other e answer after h = shows_same _ n s other e answer after h
 
 -- each of a driver's own tasks answers by the driver's rows alone
 pub same_answers : SameAnswers
@@ -321,7 +324,9 @@ module _ (one_content : (p : Part) (bytes : List ℕ) (a b : Result Content Card
     → AreStretches line base others → stretches ≡ others)
     (one_form : (line : List Span) (base end : ℕ) (a b : List ℕ) → IsForm line base end a → IsForm line base end b → a ≡ b)
     (one_chart : (number : ℕ) (name : List ℕ) (line : List Span) (stretches : List Judged) (month : ℕ) (a b : List ℕ)
-    → IsMonthChart number name line stretches month a → IsMonthChart number name line stretches month b → a ≡ b) where
+    → IsMonthChart number name line stretches month a → IsMonthChart number name line stretches month b → a ≡ b)
+    (one_why : (held : List Span) (end month : ℕ) (stretches : List Judged) (a b : List ℕ) → AreAll held end stretches
+    → IsMonthWhy held stretches month a → IsMonthWhy held stretches month b → a ≡ b) where
   -- a text of a report is unique, since the report is
   one_of_report : (Is : Driver → List Breach → List Debt → Horizon → List ℕ → Type 0)
       → ((d : Driver) (breaches : List Breach) (debts : List Debt) (horizon : Horizon) (a b : List ℕ) → Is d breaches debts horizon a → Is d breaches debts horizon b → a ≡ b)
@@ -345,6 +350,13 @@ module _ (one_content : (p : Part) (bytes : List ℕ) (a b : Result Content Card
   one_form_of d a b h k =
       let end : k.0 ≡ h.0 = one_end (held_spans d) (1440 * d.base) k.0 h.0 k.1 h.1 in
       one_form (held_spans d) (1440 * d.base) h.0 a b h.2 (subst (λ (end : ℕ). IsForm (held_spans d) (1440 * d.base) end b) end k.2)
+
+  -- the text of the evidence for a month's breaches is unique
+  one_why_of : (month : ℕ) → IsOne (λ d. OfStretches (λ stretches. IsMonthWhy (held_spans d) stretches month) d)
+  one_why_of month d a b h k =
+      let same = one_stretches (held_spans d) (1440 * d.base) k.0 h.0 k.1 h.1 in
+      one_why (held_spans d) h.1.end month h.0 a b h.1.all h.2
+      (subst (λ (stretches : List Judged). IsMonthWhy (held_spans d) stretches month b) same k.2)
 
   -- each text of a driver is unique
   one_reading : (text : Reading) (n : ℕ) (s : State) (a b : Answer) (after left : State)
@@ -374,6 +386,7 @@ module _ (one_content : (p : Part) (bytes : List ℕ) (a b : Result Content Card
   one_month month.Chart m n s a b after left h k =
       one_shown _ (one_of_stretches (λ d stretches. IsMonthChart n d.name (held_spans d) stretches m)
       (λ d stretches x y. one_chart n d.name (held_spans d) stretches m x y)) n s a b after left h k
+  one_month month.Why m n s a b after left h k = one_shown _ (one_why_of m) n s a b after left h k
 
   -- each of a driver's own tasks has one answer
   pub one_answer : OneAnswer

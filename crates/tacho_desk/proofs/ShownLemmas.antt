@@ -1,18 +1,22 @@
 -- The texts of a driver, derived from what was read.
-use Rattle.std.proofs.Common.{◌≡◌, ℕ, ◌*◌, List, Option, Some, None, Ok, subst}
+use Rattle.std.proofs.Common.{◌≡◌, ℕ, ◌*◌, ◌<◌, ◌≤◌, List, [], Option, Some, None, Ok, subst, arith}
+use Rattle.std.specs.List.{Contains}
 use Rattle.std.specs.Prelude.{IfSome}
+use Rattle.tacho_time.specs.Limits.{greatest_minute}
 use Rattle.tacho_time.specs.declared.span.Span.{Span}
 use Rattle.tacho_line.specs.Line.{AgreeWithin}
+use Rattle.tacho_law.specs.Limits.{latest}
 use Rattle.tacho_rules.specs.Report.{IsReport}
 use Rattle.tacho_rules.specs.declared.report.Report.{Report}
 use Rattle.tacho_stretches.specs.Start.{IsEndOfHeld}
-use Rattle.tacho_stretches.specs.Stretches.{AreStretches, Judged}
+use Rattle.tacho_stretches.specs.Stretches.{AreAll, AreStretches, Judged}
 use Rattle.tacho_state.specs.Reported.{AreStretchesOf, IsHeldWithin, IsDriverReport}
 use Rattle.tacho_state.specs.State.{Driver, State, driver_of, held_spans}
 use Rattle.tacho_state.specs.Steps.{name_reading, report_reading, reading_of}
 use Rattle.tacho_sheet.specs.Chart.{IsMonthChart}
 use Rattle.tacho_sheet.specs.Form.{IsForm}
-use Rattle.tacho_sheet.specs.Reports.{AgreeIn, AreBounds, IsGapText, IsMonthSheet, IsSpanCsv}
+use Rattle.tacho_sheet.specs.Reports.{breaches_within, AgreeIn, AreBounds, IsGapText, IsMonthSheet, IsSpanCsv}
+use Rattle.tacho_sheet.specs.Why.{AgreeOn, IsMonthWhy}
 use Rattle.tacho_sheet.proofs.ChartLemmas.{chart_same}
 use Rattle.tacho_sheet.proofs.MarkLemmas.{form_same, gap_text_same, month_sheet_same, span_csv_same}
 use Rattle.tacho_desk.specs.Doing.{IsTextOf}
@@ -130,3 +134,47 @@ pub form_shown : (n : ℕ) (s : State) (stretches : List Judged) (start past : �
     → AreStretchesOf n s stretches → AreEnds stretches start past → IsHeldWithin n start past s line → IsForm line start past text
     → IsTextOf IsFormOf (driver_of n s) (Ok (Long text))
 form_shown n s stretches start past line text = form_of (driver_of n s) stretches start past line text
+
+-- ---- the evidence for a month's breaches
+
+-- the range has the minutes of each stretch with such a breach, and of its horizon
+abbrev pub HasRange : List Judged → ℕ → ℕ → ℕ → Type 0
+HasRange stretches month from to =
+    (start past : ℕ) → AreBounds month start past → (s : Judged) → Contains stretches s → (breaches_within start past s.breaches ≡ [] → ⊥)
+    → s.horizon.minute < greatest_minute → (from ≤ s.monday) × (s.horizon.minute < to)
+
+-- each such stretch ends by the end of 2099
+abbrev pub EndInTime : List Judged → ℕ → Type 0
+EndInTime stretches month =
+    (s : Judged) (start past : ℕ) → AreBounds month start past → Contains stretches s → (breaches_within start past s.breaches ≡ [] → ⊥)
+    → s.horizon.minute ≤ latest
+
+-- the text is the evidence, if the line agrees with what is held at the minutes of such stretches
+abbrev pub IsWhyIf : List Span → List Judged → ℕ → List ℕ → Type 0
+IsWhyIf line stretches month text =
+    (held : List Span) (end : ℕ) → AreAll held end stretches
+    → ((start past : ℕ) → AreBounds month start past → (s : Judged) → Contains stretches s → AgreeOn line held start past s)
+    → IsMonthWhy held stretches month text
+
+-- the evidence for the breaches of a driver's month
+why_of : (month : ℕ) (o : Option Driver) (stretches : List Judged) (from to : ℕ) (line : List Span) (text : List ℕ)
+    → reading_of {A = Unit {0}} (λ d. Ok tt) o ≡ Ok tt → IfSome o (λ d. AreStretches (held_spans d) (1440 * d.base) stretches)
+    → HasRange stretches month from to → IfSome o (λ d. AgreeWithin from to line (held_spans d)) → EndInTime stretches month
+    → IsWhyIf line stretches month text → IsTextOf (λ d. OfStretches (λ stretches. IsMonthWhy (held_spans d) stretches month) d) o (Ok (Long text))
+why_of month None stretches from to line text there are range within early is = cc
+why_of month (Some d) stretches from to line text there are range within early is = (
+  stretches,
+  are,
+  is (held_spans d) are.end are.all (λ start past bounds s among some m inside.
+      let end : s.horizon.minute ≤ latest = early s start past bounds among some in
+      let (low, high) = range start past bounds s among some (omega (arith, end)) in
+      let a = inside.0 in
+      let b = inside.1 in
+      within m (omega (arith, low, a), omega (arith, high, b))),
+)
+
+pub why_shown : (month n : ℕ) (s : State) (stretches : List Judged) (from to : ℕ) (line : List Span) (text : List ℕ)
+    → report_reading n s ≡ Ok tt → AreStretchesOf n s stretches → HasRange stretches month from to → IsHeldWithin n from to s line
+    → EndInTime stretches month → IsWhyIf line stretches month text
+    → IsTextOf (λ d. OfStretches (λ stretches. IsMonthWhy (held_spans d) stretches month) d) (driver_of n s) (Ok (Long text))
+why_shown month n s stretches from to line text = why_of month (driver_of n s) stretches from to line text

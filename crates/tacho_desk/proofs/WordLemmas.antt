@@ -1,5 +1,5 @@
 -- Arguments make one task, or have one first fault.
-use Rattle.std.proofs.Common.{◌≡◌, ◌∙◌, ℕ, ◌≤◌, List, Ok, Err, arith, inl, inr, ap, sym, subst}
+use Rattle.std.proofs.Common.{◌≡◌, ◌∙◌, ℕ, ◌≤◌, List, Ok, arith, inl, inr, sym, subst}
 use Rattle.std.proofs.lemmas.Fmt.{decimal_injective}
 use Rattle.tacho_time.specs.Reading.{day_at, month_at}
 use Rattle.tacho_state.specs.declared.caller.Caller.{Caller}

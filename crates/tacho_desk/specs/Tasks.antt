@@ -32,6 +32,7 @@ use Rattle.tacho_sheet.specs.Stretches.{stretch_text, debt_text}
 use Rattle.tacho_sheet.specs.Chart.{IsMonthChart}
 use Rattle.tacho_sheet.specs.Reports.{breach_text, owed_text, IsGapText, IsMonthSheet, IsSpanCsv}
 use Rattle.tacho_sheet.specs.Text.{entry_line, file_line, summary_line}
+use Rattle.tacho_sheet.specs.Why.{IsMonthWhy}
 use Rattle.tacho_desk.specs.Doing.{Doing, IsText, Lists, Refuses, Shows, Steps}
 use Rattle.tacho_desk.specs.Fault.{sheet_fault, fault_of_store}
 use Rattle.tacho_desk.specs.Told.{Told, Added, Line, Long, File}
@@ -122,6 +123,7 @@ ShowsMonth month.Spans m n s = Shows (λ d. IsSpanCsv (held_spans d) m) n s
 ShowsMonth month.Gaps m n s = Shows (λ d. IsGapText (held_spans d) m) n s
 ShowsMonth month.Sheet m n s = Shows (λ d. OfReport (λ breaches debts horizon. IsMonthSheet n d.name (held_spans d) breaches horizon m) d) n s
 ShowsMonth month.Chart m n s = Shows (λ d. OfStretches (λ stretches. IsMonthChart n d.name (held_spans d) stretches m) d) n s
+ShowsMonth month.Why m n s = Shows (λ d. OfStretches (λ stretches. IsMonthWhy (held_spans d) stretches m) d) n s
 
 abbrev pub ShowsFile : ℕ → ℕ → State → Doing
 ShowsFile n number s = Lists (λ file. File file) s (file_reading n number s)

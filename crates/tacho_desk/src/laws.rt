@@ -9,7 +9,7 @@ ghost use Rattle.tacho_desk.specs.declared.want.Want.{Want};
 
 use tacho_rules::laws::one_report;
 use tacho_sheet::laws::{
-    one_chart_of_a_month, one_form, one_sheet_of_a_month, one_text_of_a_month,
+    one_chart_of_a_month, one_form, one_sheet_of_a_month, one_text_of_a_month, one_why_of_a_month,
 };
 use tacho_state::laws::one_content;
 use tacho_stretches::laws::one_list_of_stretches;
@@ -42,4 +42,5 @@ pub fn own_tasks_have_one_answer()
     one_list_of_stretches();
     one_form();
     one_chart_of_a_month();
+    one_why_of_a_month();
 }

@@ -13,9 +13,9 @@ use crate::want::{MonthReading, Reading};
 use std::alloc::Global;
 use tacho_sheet::{
     breach_text, debt_text, driver_text, entry_text, file_text, form_text, gap_text, month_chart,
-    month_sheet, owed_text, span_csv, stretch_text,
+    month_sheet, owed_text, range_of_why, span_csv, stretch_text, why_text,
 };
-use tacho_state::Keeper;
+use tacho_state::{Keeper, StoreFault};
 use tacho_stretches::range_of;
 use tacho_time::{Month, month_range};
 
@@ -58,6 +58,7 @@ pub(crate) fn show_month<K: Keeper>(
         MonthReading::Gaps => gaps(alloc, keeper, driver, month),
         MonthReading::Sheet => sheet(alloc, keeper, driver, month),
         MonthReading::Chart => chart(alloc, keeper, driver, month),
+        MonthReading::Why => why(alloc, keeper, driver, month),
     }
 }
 
@@ -108,6 +109,21 @@ fn chart<K: Keeper>(alloc: Global, keeper: &mut K, driver: u32, month: Month) ->
     let (line, stretches) = keeper.line_and_stretches(alloc, driver, start, past)?;
     let text = month_chart(alloc, driver, &name, &line, &stretches, month)?;
     Ok(Text::Long(text))
+}
+
+/// Writes the breaches of a driver's month, each with its evidence. Fails with S12 if what the archive holds can't be examined.
+fn why<K: Keeper>(alloc: Global, keeper: &mut K, driver: u32, month: Month) -> Result<Text, Fault>
+    ensures serves { Serves K.stands K.is_clean K.is_live K.leaves K.is_same keeper.old keeper.new false (answer_of result)
+        (ShowsMonth of_month.Why month driver) }
+    ensures archive { IsOfArchive (answer_of result) }
+{
+    let stretches = keeper.stretches(alloc, driver)?;
+    let (start, past) = range_of_why(&stretches, month);
+    let line = keeper.line_within(alloc, driver, start, past)?;
+    match why_text(alloc, &line, &stretches, month)? {
+        Some(text) => Ok(Text::Long(text)),
+        None => Err(Fault::from(StoreFault::Store)),
+    }
 }
 
 /// Writes the breaches of a driver.

@@ -53,6 +53,8 @@ pub enum MonthReading {
     Sheet,
     /// The chart of the month, as SVG.
     Chart,
+    /// The breaches of the month, each with its evidence.
+    Why,
 }
 
 /// A text about a month of all drivers, as CSV.
