@@ -15,7 +15,7 @@ pub(crate) type Command = (&'static str, &'static str, &'static str, u8);
 const STOPPED: (&[u8], u8) = (b"S12 store failed\n", 3);
 
 /// Command lines that read what an archive has of driver 17 in March 2024, and that it has no driver 18.
-const READINGS: [&str; 9] = [
+const READINGS: [&str; 10] = [
     "drivers",
     "entries 17",
     "files 17",
@@ -23,6 +23,7 @@ const READINGS: [&str; 9] = [
     "gaps 17 2024-03",
     "sheet 17 2024-03",
     "breaches 17",
+    "why 17 2024-03",
     "owed 17",
     "entries 18",
 ];

@@ -50,6 +50,14 @@ B1 Art 7 at 2024-03-04 13:00 since 2024-03-04 08:30 amount 240
 EXAMINED TO 2024-03-04 17:00 unknown
 ";
 
+/// The same breach with its evidence: 8 hours 30 minutes between the rest before 08:00 and the rest from the horizon on.
+const WHY: &str = "\
+B1 Art 7 at 2024-03-04 13:00 since 2024-03-04 08:30 amount 240
+  break - 2024-03-04 08:00 -
+  drive 2024-03-04 08:30 2024-03-04 17:00 8:30 8:30
+  break 2024-03-04 17:00 - -
+";
+
 const SPANS: &str = "\
 start,past,activity,manning
 2024-03-04 00:00,2024-03-04 08:00,rest,single
@@ -117,6 +125,8 @@ static ROWS: [(&str, &[Command]); 8] = [
         &[
             IMPORT,
             ("breaches 17", "", BREACHES, 0),
+            ("why 17 2024-03", "", WHY, 0),
+            ("why 17 2024-04", "", "", 0),
             ("spans 17 2024-03", "", SPANS, 0),
             ("gaps 17 2024-03", "", GAPS, 0),
             ("sheet 17 2024-03", "", SHEET, 0),
@@ -147,6 +157,9 @@ static ROWS: [(&str, &[Command]); 8] = [
             ("breaches 017", "", "N1 bad number\n", 1),
             ("sheet 17 2024-13", "", "Z2 no such date\n", 1),
             ("sheet 017 2024-13", "", "N1 bad number\n", 1),
+            ("why 017 2024-13", "", "N1 bad number\n", 1),
+            ("why 17 2024-13", "", "Z2 no such date\n", 1),
+            ("why 18 2024-03", "", "S4 unknown driver\n", 1),
             ("breaches 18", "", "S4 unknown driver\n", 1),
             ("spans 17 2024-3", "", "Z1 not of the shape\n", 1),
             ("gaps 17 2100-01", "", "Z3 out of range\n", 1),
@@ -285,6 +298,13 @@ static ROWS: [(&str, &[Command]); 8] = [
                 "breaches 17",
                 "",
                 "B5 Art 6(1) at 2024-03-06 16:30 since 2024-03-06 06:00 amount 61\nB4 Art 6(1) at 2024-03-06 17:30 since 2024-03-06 06:00 amount 1\nEXAMINED TO 2024-03-07 00:00 unknown\n",
+                0,
+            ),
+            // Another program computed this evidence.
+            (
+                "why 17 2024-03",
+                "",
+                "B5 Art 6(1) at 2024-03-06 16:30 since 2024-03-06 06:00 amount 61\n  week 2024-03-04\n  day 1 2024-03-04 06:00 2024-03-04 16:31 drive 9:01\n  day 2 2024-03-05 06:00 2024-03-05 16:31 drive 9:01\n  day 3 2024-03-06 06:00 2024-03-06 17:31 drive 10:01\n  drive 2024-03-06 06:00 2024-03-06 10:30 4:30 4:30\n  drive 2024-03-06 11:15 2024-03-06 15:45 4:30 9:00\n  drive 2024-03-06 16:30 2024-03-06 17:31 1:01 10:01\nB4 Art 6(1) at 2024-03-06 17:30 since 2024-03-06 06:00 amount 1\n  day 2024-03-06 06:00 2024-03-06 17:31\n  drive 2024-03-06 06:00 2024-03-06 10:30 4:30 4:30\n  drive 2024-03-06 11:15 2024-03-06 15:45 4:30 9:00\n  drive 2024-03-06 16:30 2024-03-06 17:31 1:01 10:01\n",
                 0,
             ),
             ("base 17 2024-03-11", "", "base 2024-03-11\n", 0),

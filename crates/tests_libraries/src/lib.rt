@@ -11,6 +11,8 @@ mod drivers;
 #[cfg(test)]
 mod each_pass;
 #[cfg(test)]
+mod evidence;
+#[cfg(test)]
 mod examinations;
 #[cfg(test)]
 mod files;

@@ -368,7 +368,7 @@ fn writers_fail_at_each_call(rt: HostRuntime) -> Result<(), Fail> {
 }
 
 /// Arguments, and the job that they name.
-static JOBS: [(&[&str], Job<'static>); 26] = [
+static JOBS: [(&[&str], Job<'static>); 27] = [
     (&["tacho", "dump"], Job::Dump),
     (&["tacho", "holder"], Job::Holder),
     (&["tacho", "card", "first"], Job::Card { part: "first" }),
@@ -456,6 +456,15 @@ static JOBS: [(&[&str], Job<'static>); 26] = [
             want: Want::Reading(Reading::Breaches),
             driver: "17",
             word: "",
+        }),
+    ),
+    (
+        &["tacho", "why", "a.db", "17", "2024-03"],
+        Job::AtDesk(DeskJob {
+            archive: "a.db",
+            want: Want::MonthReading(MonthReading::Why),
+            driver: "17",
+            word: "2024-03",
         }),
     ),
     (
@@ -646,6 +655,7 @@ Commands:
   sheet      Prints the sheet of a driver's month
   chart      Draws a driver's month as SVG: a row for each day, with the breaches: tacho chart ARCHIVE DRIVER MONTH > month.svg
   breaches   Prints the breaches of the rules on driving and rest hours
+  why        Prints the breaches of a driver's month, each with the evidence for it
   owed       Prints the weekly rests that are owed
   entries    Prints the hours that were entered by hand
   file       Prints a card download file that was kept
@@ -735,7 +745,7 @@ For more information, try '--help'.
 
 const NO_COMMAND: &str = "\
 error: 'tacho' requires a subcommand but one was not provided
-  [subcommands: dump, holder, card, init, migrate, register, import, enter, withdraw, base, spans, gaps, sheet, chart, breaches, owed, entries, file, files, drivers, stretches, debts, overview, incidents, form, serve, help]
+  [subcommands: dump, holder, card, init, migrate, register, import, enter, withdraw, base, spans, gaps, sheet, chart, breaches, why, owed, entries, file, files, drivers, stretches, debts, overview, incidents, form, serve, help]
 
 Usage: tacho <COMMAND>
 
