@@ -212,6 +212,21 @@ def of_modes(program, umask):
         yield f"{name}: the modes after the end of a command", modes(desk.path), OWNED
 
 
+def of_empty_files(program):
+    """The comparisons of the modes of an empty file that is there, and of a log beside it, once an archive is made in it."""
+    for mode in (0o600, 0o640, 0o644, 0o666):
+        for ending in ("", "-wal"):
+            with tempfile.TemporaryDirectory() as folder:
+                desk = Desk(program, folder)
+                with open(desk.path + ending, "wb"):
+                    os.chmod(desk.path + ending, mode)
+                name = f"an empty {'log' if ending else 'file'} of mode {mode:03o}"
+                yield f"{name}: init", desk.run(["init"]), CREATED
+                yield f"{name}: the modes after init", modes(desk.path), OWNED
+                yield f"{name}: register", *desk.both(["register"], ANNA)
+                yield f"{name}: the modes after a command", modes(desk.path), OWNED
+
+
 def of_refused_modes(program):
     """The comparisons of the modes of files that are there and where no archive is made: they stay."""
     for mode in (0o600, 0o640, 0o644, 0o666):
@@ -232,7 +247,7 @@ def of_refused_modes(program):
 
 def comparisons(program: str, compiler: str) -> counting.Comparisons:
     questions: list[tuple[Any, ...]] = [(of_case, program, compiler, case, kind) for case in CASES for kind in STOPS]
-    questions += [(of_modes, program, 0o022), (of_modes, program, 0), (of_refused_modes, program)]
+    questions += [(of_modes, program, 0o022), (of_modes, program, 0), (of_refused_modes, program), (of_empty_files, program)]
     kinds = set()
     with multiprocessing.Pool(PROCESSES) as pool:
         for found in pool.imap(pools.of_question, questions):

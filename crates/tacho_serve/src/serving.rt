@@ -16,8 +16,8 @@ const PATIENCE: u64 = 30;
 /// The most seconds for which the server still reads what follows a request that it has answered.
 const LINGER: u64 = 2;
 
-/// How often in a row the server tries to accept a connection while files or memory are short, and the pause after each try in
-/// milliseconds: half a minute in all.
+/// How often in a row the server tries to accept a connection after an error that may pass, and the pause after each try in milliseconds:
+/// half a minute in all.
 const TRIES: u32 = 300;
 
 const PAUSE: u64 = 100;
@@ -25,17 +25,42 @@ const PAUSE: u64 = 100;
 /// How often the server probes an archive whose store has failed before it ends, with the same pause after each probe: a second in all.
 const QUESTIONS: u32 = 10;
 
-/// The system's error numbers for causes that may pass: out of memory, too many open files in the system or in the program, a client that
-/// has left, and no memory for sockets.
+/// The system's error numbers for causes that may pass. Memory or open files are short.
 const ENOMEM: i32 = 12;
 
 const ENFILE: i32 = 23;
 
 const EMFILE: i32 = 24;
 
-const ECONNABORTED: i32 = 103;
+const ENOSR: i32 = 63;
 
 const ENOBUFS: i32 = 105;
+
+/// The client has left, or a firewall has refused it, or there is none yet.
+const EPERM: i32 = 1;
+
+const EAGAIN: i32 = 11;
+
+const ECONNABORTED: i32 = 103;
+
+/// The network had an error before the connection was accepted: accept(2) says to try again.
+const ENONET: i32 = 64;
+
+const EPROTO: i32 = 71;
+
+const ENOPROTOOPT: i32 = 92;
+
+const EOPNOTSUPP: i32 = 95;
+
+const ENETDOWN: i32 = 100;
+
+const ENETUNREACH: i32 = 101;
+
+const ETIMEDOUT: i32 = 110;
+
+const EHOSTDOWN: i32 = 112;
+
+const EHOSTUNREACH: i32 = 113;
 
 /// Why a server ended before it had answered all of its connections.
 #[derive(Clone, Copy, Debug, PartialEq, Eq, Error)]
@@ -84,7 +109,7 @@ fn has_failed<K: Keeper>(rt: &HostRuntime, keeper: &mut K, key: &str) -> bool {
     true
 }
 
-/// Accepts the next connection. If resources are short, waits and tries again, and fails after the last try.
+/// Accepts the next connection. After an error that may pass, waits and tries again, and fails after the last try.
 fn accept(rt: &HostRuntime, listener: &TcpListener) -> io::Result<TcpStream> {
     for _ in 0..TRIES {
         match listener.accept() {
@@ -100,7 +125,25 @@ fn accept(rt: &HostRuntime, listener: &TcpListener) -> io::Result<TcpStream> {
 fn may_pass(error: &io::Error) -> bool {
     matches!(
         error.raw_os_error(),
-        Some(ENOMEM | ENFILE | EMFILE | ECONNABORTED | ENOBUFS)
+        Some(
+            ENOMEM
+                | ENFILE
+                | EMFILE
+                | ENOSR
+                | ENOBUFS
+                | EPERM
+                | EAGAIN
+                | ECONNABORTED
+                | ENONET
+                | EPROTO
+                | ENOPROTOOPT
+                | EOPNOTSUPP
+                | ENETDOWN
+                | ENETUNREACH
+                | ETIMEDOUT
+                | EHOSTDOWN
+                | EHOSTUNREACH
+        )
     )
 }
 
