@@ -6,8 +6,8 @@
 ghost use Rattle.std.specs.Prelude.{◌≡◌, false};
 
 use sqlite::{Alter, Connection, Error, ErrorCode, File, FileStore};
-use std::fs;
-use std::os::unix::fs::OpenOptionsExt;
+use std::fs::{self, Permissions};
+use std::os::unix::fs::{OpenOptionsExt, PermissionsExt};
 use tacho_cli::{DeskJob, perform_at_desk};
 use tacho_serve::{ServeFault, serve};
 use tacho_state::StoreFault;
@@ -159,22 +159,52 @@ fn at_connection<S: Alter + Drop>(
     }
 }
 
-/// Makes an empty file with that mode if none exists. The store treats it as new, and gives its log the same mode. If the file can't be
-/// made, the store reports why.
-fn make_own(rt: &HostRuntime, path: &str) {
+/// Makes an empty file with that mode if none exists. Gives that mode to an empty file that exists, and to a log beside a new or an empty
+/// file. The store treats an empty file as new, and gives its log the same mode. If the file can't be made, or isn't empty, the store
+/// reports why.
+fn make_own(rt: &HostRuntime, path: &str) -> Result<(), StoreFault> {
     let mut options = fs::File::options();
-    let _ = options
+    let made = options
         .write(true)
         .create_new(true)
         .mode(OWNER_ALONE)
         .open(rt, path);
+    if made.is_err() {
+        if !is_empty(rt, path) {
+            return Ok(());
+        }
+        own(rt, path)?;
+    }
+    let Ok(log) = format!(in rt.alloc(); "{path}-wal") else {
+        return Err(StoreFault::Memory);
+    };
+    if matches!(fs::exists(rt, &log), Ok(true)) {
+        own(rt, &log)?;
+    }
+    Ok(())
+}
+
+/// True if a path names an empty file.
+fn is_empty(rt: &HostRuntime, path: &str) -> bool {
+    match fs::metadata(rt, path) {
+        Ok(found) => found.is_file() && found.len() == 0,
+        Err(_) => false,
+    }
+}
+
+/// Gives a file that mode. Fails if it belongs to another user.
+fn own(rt: &HostRuntime, path: &str) -> Result<(), StoreFault> {
+    match fs::set_permissions(rt, path, Permissions::from_mode(OWNER_ALONE)) {
+        Ok(()) => Ok(()),
+        Err(_) => Err(StoreFault::Store),
+    }
 }
 
 /// Opens an archive's file: a new one if the archive is to be made, otherwise an existing one. A new file gets checksums of its pages, by which
 /// later opens find what was changed in it.
 fn open_file(rt: &HostRuntime, path: &str, work: Work<'_>) -> Result<FileConnection, StoreFault> {
     if matches!(work, Work::Create) {
-        make_own(rt, path);
+        make_own(rt, path)?;
     } else if !matches!(fs::exists(rt, path), Ok(true)) {
         return Err(StoreFault::Store);
     }
