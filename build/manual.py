@@ -1,0 +1,183 @@
+#!/usr/bin/env python3
+"""Prints the man page of the program, which is made from the table of commands in crates/tacho_cli/src/words.rt. To read it:
+
+    build/manual.py > tacho.1 && man ./tacho.1
+
+checks/package.py compares it with what the program prints for `tacho help` and `tacho help COMMAND`."""
+import os
+import re
+import subprocess
+import sys
+import time
+
+TOP = os.path.dirname(os.path.dirname(os.path.realpath(__file__)))
+WORDS = os.path.join(TOP, "crates", "tacho_cli", "src", "words.rt")
+
+# The exit statuses, as docs/FORMATS.md describes them.
+STATUSES = {
+    0: "The command has done what it should.",
+    1: "The command has refused its input, and nothing has changed. The line that it prints begins with the code of the fault.",
+    2: "The arguments name no command, or ask for help. The usage goes to standard error, and nothing has changed.",
+    3: "Memory, the archive's file or a device failed (M1, S12, X2). Whether the command has acted: see docs/OFFICE.md, "
+       "'When something fails'.",
+}
+
+# The files that the program and its service use.
+FILES = {
+    "/var/lib/tacho/archive.db": "The archive of the service. Beside it is its log, archive.db-wal, which belongs to it.",
+    "/etc/tacho/key": "The office's key, in one line: TACHO_KEY= and the key.",
+    "tacho.service": "The unit of the service for systemd.",
+    "tacho-backup.service, tacho-backup.timer": "The units that copy the archive to /var/backups/tacho each night.",
+}
+
+
+class Stop(Exception):
+    """The reason why the man page can't be made."""
+
+
+class Command:
+    """A command: its name, its description, and the names of its arguments in order."""
+
+    def __init__(self, name: str, about: str, arguments: list[str]) -> None:
+        self.name = name
+        self.about = about
+        self.arguments = arguments
+
+
+def commands_of(source: str) -> list[Command]:
+    """The table of commands in the text of words.rt. Raises `Stop` if a row of it has another form."""
+    table = re.search(r"^static TABLE: \[Row; (\d+)\] = \[\n(.*?)^\];", source, re.MULTILINE | re.DOTALL)
+    if table is None:
+        raise Stop(f"{WORDS} has no table of commands")
+    rows = re.findall(r'\(\s*"([a-z]+)",\s*"([^"\\]+)",\s*&\[([^\]]*)\],\s*Act::', table[2])
+    if len(rows) != int(table[1]):
+        raise Stop(f"{len(rows)} of the {table[1]} rows of the table of commands in {WORDS} can be read")
+    return [Command(name, about, re.findall(r'"([a-z]+)"', arguments)) for name, about, arguments in rows]
+
+
+def meanings_of(source: str, commands: list[Command]) -> dict[str, str]:
+    """The description of each argument, in the order in which the commands first name them, by the text of words.rt. Raises `Stop` if it
+    doesn't describe exactly these arguments."""
+    body = re.search(r"^fn meaning_of\(.*?^\}", source, re.MULTILINE | re.DOTALL)
+    named = list(dict.fromkeys(argument for command in commands for argument in command.arguments))
+    found = dict(re.findall(r'id == "([a-z]+)" \{\s*"([^"\\]+)"', body[0] if body else ""))
+    # The last description, after `else`, is that of the one argument that isn't named before.
+    rest = [argument for argument in named if argument not in found]
+    last = re.search(r'else \{\s*"([^"\\]+)"\s*\}\s*\}$', body[0] if body else "")
+    if last is None or len(rest) != 1 or set(found) > set(named):
+        raise Stop(f"the descriptions of the arguments in {WORDS} can't be read")
+    found[rest[0]] = last[1]
+    return {argument: found[argument] for argument in named}
+
+
+def escaped(text: str) -> str:
+    """A text as roff source that prints it as it is."""
+    text = text.replace("\\", "\\e").replace("-", "\\-").replace("'", "\\(aq")
+    return f"\\&{text}" if text.startswith(".") else text
+
+
+def bold(text: str) -> str:
+    """A text in bold, as roff source."""
+    return f"\\fB{escaped(text)}\\fR"
+
+
+def italic(text: str) -> str:
+    """A text in italics, as roff source."""
+    return f"\\fI{escaped(text)}\\fR"
+
+
+def form_of(command: Command) -> str:
+    """How a command is typed, as roff source. What it reads from standard input is taken from its description."""
+    words = [bold(command.name), *(italic(argument.upper()) for argument in command.arguments)]
+    read = re.search(rf"tacho {command.name}\b[A-Z ]* < ([A-Z]+)", command.about)
+    return " ".join([*words, *(["<", italic(read[1])] if read else [])])
+
+
+def listed(items: list[tuple[str, str]]) -> list[str]:
+    """A list of terms, which are roff source, and of their descriptions."""
+    return [line for term, about in items for line in (".TP", term, escaped(about))]
+
+
+def manual(version: str, seconds: int) -> str:
+    """The man page of a version, with the day of a time in seconds since 1970. Raises `Stop` if it can't be made."""
+    with open(WORDS, encoding="utf-8") as file:
+        source = file.read()
+    commands = commands_of(source)
+    day = time.strftime("%Y-%m-%d", time.gmtime(seconds))
+    lines = [
+        f".TH TACHO 1 {day} \"tacho {version}\"",
+        # No word is divided at the end of a line, and lines aren't stretched: some words are typed.
+        ".nh",
+        ".ad l",
+        ".SH NAME",
+        "tacho \\- archive for the driver cards of digital tachographs",
+        ".SH SYNOPSIS",
+        f"{bold('tacho')} {italic('COMMAND')} [{italic('ARGUMENT')}...]",
+        ".br",
+        f"{bold('tacho help')} [{italic('COMMAND')}]",
+        ".SH DESCRIPTION",
+        escaped("Stores the hours that driver cards record, and checks them against the rules on driving and rest of Regulation (EC) "
+                "561/2006. The archive is a single file. A command opens it, reads its input, prints its answer, and ends; while a "
+                "command has it open, any other gets 'S12 store failed'. All times are UTC."),
+        ".PP",
+        escaped("An answer goes to standard output, also the line of a fault. An input has at most 262144 bytes, that of dump at most "
+                "65535."),
+        ".SH COMMANDS",
+        *listed([(form_of(command), command.about) for command in commands]),
+        ".TP",
+        f"{bold('help')} [{italic('COMMAND')}]",
+        escaped("Prints how the program or a command is used, on standard error"),
+        ".SH ARGUMENTS",
+        *listed([(italic(argument.upper()), about) for argument, about in meanings_of(source, commands).items()]),
+        ".SH EXIT STATUS",
+        *listed([(bold(str(status)), about) for status, about in STATUSES.items()]),
+        ".SH FILES",
+        *listed([(bold(name), about) for name, about in FILES.items()]),
+        ".SH SEE ALSO",
+        escaped("docs/OFFICE.md guides an office from week to week, docs/FORMATS.md describes each command, text and fault, and "
+                "docs/RULES.md the rules. A Debian package has these files in /usr/share/doc/tacho."),
+    ]
+    return "\n".join(lines) + "\n"
+
+
+def version_of_sources() -> str:
+    """The version in the file VERSION. Raises `Stop` if it isn't three numbers."""
+    with open(os.path.join(TOP, "VERSION"), encoding="utf-8") as file:
+        version = file.read()
+    if not re.fullmatch(r"\d+\.\d+\.\d+\n", version):
+        raise Stop("VERSION doesn't have one line with a version such as 1.0.0")
+    return version.strip()
+
+
+def git(*words: str) -> str:
+    """What git prints, also if the sources belong to another user. Raises `Stop` if it fails."""
+    try:
+        return subprocess.run(["git", "-c", f"safe.directory={TOP}", *words], cwd=TOP, capture_output=True, text=True, check=True).stdout
+    except FileNotFoundError as error:
+        raise Stop("git isn't installed") from error
+    except subprocess.CalledProcessError as error:
+        raise Stop(f"git {words[0]} failed: {error.stderr.strip()}") from error
+
+
+def time_of_commit() -> int:
+    """The time of the last commit in seconds since 1970, or that of the variable SOURCE_DATE_EPOCH. Raises `Stop` if there is neither."""
+    given = os.environ.get("SOURCE_DATE_EPOCH")
+    if given is None:
+        given = git("log", "-1", "--format=%ct").strip()
+    if not re.fullmatch(r"\d+", given):
+        raise Stop(f"SOURCE_DATE_EPOCH isn't a number of seconds: {given}")
+    return int(given)
+
+
+def main() -> int:
+    """Prints the man page, and returns the status of this script."""
+    try:
+        sys.stdout.write(manual(version_of_sources(), time_of_commit()))
+    except Stop as stop:
+        print(f"manual: {stop}", file=sys.stderr)
+        return 3
+    return 0
+
+
+if __name__ == "__main__":
+    sys.exit(main())
