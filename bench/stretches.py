@@ -1,6 +1,6 @@
-"""Measures stretches next to reports, and a month of all drivers next to a report of each, on archives in files. Counts the instructions of
-stretches, of a month of all drivers and of the chart of a month, and compares them with a plain Rust program over stock SQLite
-(plain/stretches.rs).
+"""Measures stretches and the evidence for a month's breaches next to reports, and a month of all drivers next to a report of each, on
+archives in files. Counts the instructions of stretches, of a month of all drivers, and of the chart of a month and the evidence for its
+breaches, and compares them with a plain Rust program over stock SQLite (plain/stretches.rs). Counts those of evidence next to a report too.
 
 One archive has a driver with card files of ten years. Rest is entered in its gaps, so the report extends to the end. Another archive has
 the same files with their gaps, at each of which a stretch ends, and a third the last year of these. There are two archives of fifty drivers
@@ -14,6 +14,7 @@ program that has run it as its first command, minus those of a program that has 
 count, but the costs of a first command do. Those of running the same command a second time are printed as well."""
 import functools
 import os
+import shutil
 import sys
 from collections.abc import Callable, Mapping, Sequence
 
@@ -28,6 +29,7 @@ Works = Mapping[str, tuple[str, Sequence[str]]]  # for each work the path of its
 
 ROUNDS, ROUNDS_OF_ALL = 40, 10
 YEARS, DRIVERS = 10, 50
+WHY = f"why - {DRIVER} 2023-06"  # the month is one of the last year, and has breaches of three kinds
 
 
 def make_all(script: str, folder: str, path: str, is_filled: bool) -> str:
@@ -80,15 +82,18 @@ def expected_of(sides: Sides, folder: str, name: str, command: str) -> str:
     return answers[0]
 
 
-def counted(sides: Sides, folder: str, name: str, command: str) -> Instructions:
-    """The instructions of each side that has opened an archive, and has run a command there not at all, once, or twice."""
-    work: Answered = command, expected_of(sides, folder, name, command)
+def counting(program: Sequence[str], folder: str, side: str, name: str, work: Answered) -> Callable[[], dict[str, int]]:
+    """A function that counts the instructions of a side that has opened an archive, and has run a command there not at all, once, or
+    twice."""
+    def after(times: int) -> int:
+        return instructions_after(program, copied(folder, side, name), [work] * times)
+    return lambda: {"opening": after(0), "once": after(1), "twice": after(2)}
 
-    def side_of(side: str) -> Callable[[], dict[str, int]]:
-        def after(times: int) -> int:
-            return instructions_after(sides[side], copied(folder, side, name), [work] * times)
-        return lambda: {"opening": after(0), "once": after(1), "twice": after(2)}
-    return Instructions({side: side_of(side) for side in sides})
+
+def counted(sides: Sides, folder: str, name: str, command: str) -> Instructions:
+    """The instructions of each side at a command."""
+    work: Answered = command, expected_of(sides, folder, name, command)
+    return Instructions({side: counting(program, folder, side, name, work) for side, program in sides.items()})
 
 
 def print_instructions(sides: Sides, folder: str, works: Mapping[str, tuple[str, str]]) -> None:
@@ -100,6 +105,21 @@ def print_instructions(sides: Sides, folder: str, works: Mapping[str, tuple[str,
         counts = counted(sides, folder, *work)
         print(f"{title:40}{counts.columns(less('once', 'opening'))}")
         print(f"{'  a second time':40}{counts.columns(less('twice', 'once'))}", flush=True)
+
+
+def print_evidence(script: str, folder: str, name: str, title: str) -> None:
+    """Prints the product's instructions of the evidence for a month's breaches, and those of the report, at one archive."""
+    product, side = [script], "tacho"
+    commands = {"why": WHY, "breaches": f"breaches - {DRIVER}"}
+    works = {word: (command, expected_of({side: product}, folder, name, command)) for word, command in commands.items()}
+    if "\n  " not in works["why"][1]:
+        sys.exit(f"{WHY} answers without evidence")
+    counts = Instructions({word: counting(product, folder, side, name, work) for word, work in works.items()})
+    heads = "".join([*(f" {word + '/M':>10}" for word in works), f" {'ratio':>6}"]) if HAS_VALGRIND else ""
+    print("the product's evidence for the breaches of a month compared with its report, likewise; the ratio is to be 3 at most")
+    print(f"{'':40}{heads}")
+    print(f"{title:40}{counts.columns(less('once', 'opening'))}")
+    print(f"{'  a second time':40}{counts.columns(less('twice', 'once'))}", flush=True)
 
 
 def stretches(folder: str, script: str) -> None:
@@ -114,6 +134,8 @@ def stretches(folder: str, script: str) -> None:
         f"stretches, {YEARS} years without a gap": (filled, [f"stretches - {DRIVER}"]),
         f"stretches, {YEARS} years with gaps": (gaps, [f"stretches - {DRIVER}"]),
         f"form, {YEARS} years with gaps": (gaps, [f"form - {DRIVER}"]),
+        f"why, {YEARS} years without a gap": (filled, [WHY]),
+        f"why, {YEARS} years with gaps": (gaps, [WHY]),
     }
     print_works(script, works, ROUNDS)
     full, many = os.path.join(folder, "full.db"), path_of(folder, "tacho", "many")
@@ -140,5 +162,9 @@ def stretches(folder: str, script: str) -> None:
         f"overview, {DRIVERS} drivers with gaps": ("many", f"overview - {month}"),
         "chart, one year with gaps": ("year", f"chart - {DRIVER} {month}"),
         f"chart, {YEARS} years with gaps": ("gaps", f"chart - {DRIVER} {month}"),
+        "why, one year with gaps": ("year", WHY),
+        f"why, {YEARS} years with gaps": ("gaps", WHY),
     }
     print_instructions(sides, folder, counted_works)
+    shutil.copyfile(filled, path_of(folder, "tacho", "filled"))
+    print_evidence(script, folder, "filled", f"{YEARS} years without a gap")

@@ -62,11 +62,11 @@ const LEGEND: &str = ")\">
 </g>
 </svg>\n";
 
-fn push(lines: &mut Lines, text: &str) {
+pub fn push(lines: &mut Lines, text: &str) {
     lines.text.extend_from_slice(text.as_bytes());
 }
 
-fn push_number(lines: &mut Lines, mut number: u32) {
+pub fn push_number(lines: &mut Lines, mut number: u32) {
     let (mut digits, mut from) = ([0; 10], 10);
     loop {
         from -= 1;

@@ -1,6 +1,6 @@
-//! Runs three of `tool_script`'s readings on an archive in a file, in plain Rust over std and stock SQLite: the stretches of a driver, the
-//! overview of a month, and the chart of a driver's month. It takes the same lines, and answers a command that succeeds in the same way.
-//! docs/RULES.md says what stretches are.
+//! Runs four of `tool_script`'s readings on an archive in a file, in plain Rust over std and stock SQLite: the stretches of a driver, the
+//! overview of a month, and the chart of a driver's month and the evidence for its breaches. It takes the same lines, and answers a command
+//! that succeeds in the same way. docs/RULES.md says what stretches are.
 #![allow(dead_code)]
 use std::env;
 use std::fmt::Write;
@@ -18,6 +18,7 @@ mod line;
 mod reports;
 mod script;
 mod sqlite;
+mod why;
 
 use archive::{driver_with, Driver};
 use dump::Lines;
@@ -118,6 +119,21 @@ fn chart(archive: &mut Database, driver: u32, month: &str) -> Option<String> {
     String::from_utf8(chart::chart_of(driver, &name, &spans, &stretches, month, first, days)).ok()
 }
 
+/// The breaches of a driver's month, each with its evidence.
+fn why(archive: &mut Database, driver: u32, month: &str) -> Option<String> {
+    let (first, days) = days_of(month)?;
+    let (start, past) = (DAY * first, DAY * (first + days));
+    let (base, spans) = archive.within("ROLLBACK", |archive| held_by(archive, driver))?;
+    let (mut lines, mut next) = (Lines::with_capacity(4096), Some(base));
+    // A stretch that begins after the month has no breach in it.
+    while let Some(monday) = next.filter(|monday| *monday < past) {
+        let report = examine(&spans, monday);
+        why::push_why(&mut lines, &spans, monday, &report, start, past);
+        next = start_after(&spans, report.horizon);
+    }
+    String::from_utf8(lines.text).ok()
+}
+
 /// Runs the command of a line. Returns the text to print, and the status.
 fn answer_to(archive: &mut Database, line: &str) -> (String, u8) {
     match line.split(' ').collect::<Vec<_>>()[..] {
@@ -127,6 +143,10 @@ fn answer_to(archive: &mut Database, line: &str) -> (String, u8) {
         },
         ["chart", _, driver, month] => match script::number(driver) {
             Some(driver) => script::status_of(chart(archive, driver, month)),
+            None => script::bad_number(),
+        },
+        ["why", _, driver, month] => match script::number(driver) {
+            Some(driver) => script::status_of(why(archive, driver, month)),
             None => script::bad_number(),
         },
         ["overview", _, month] => script::status_of(overview(archive, month)),
