@@ -1,35 +1,32 @@
 #!/usr/bin/env python3
 """Compares the evidence for breaches that the slow program lists (slow/slow_evidence.py) with outputs of another program, which shares no
 code with this repository: the files `why-DRIVER-MONTH` of checks/readings. They have evidence of each kind of breach, after the commands
-of their folder, which a slow office answers. No command of the program prints evidence yet; the definitions of `tacho_evidence` say the
-same as the slow program.
+of their folder, which a slow office answers; docs/RULES.md shows parts of them. Then come timelines near the limits of the rules, which are
+entered: what `why` answers of each month is compared with the slow office.
 
-The last line is 'N passed, M failed'."""
+Argument: `tool_script`. The last line is 'N passed, M failed'."""
 import os
+import random
 import sys
+from collections.abc import Iterator
 
-from lib import counting
-from lib.files import read
+from inputs import hard_timelines, random_cards
+from inputs.random_commands import date_text, driver_csv, rows_csv, rows_of
+from lib import counting, pools
+from lib.files import TOP, read
 from lib.readings import FOLDER, steps_of
-from slow import slow_evidence, slow_office, slow_reader, slow_rules
-from slow.slow_archive import Driver
+from lib.script import of_commands
+from slow import slow_office
+from slow.slow_office import Command
 
 KINDS = range(1, 11)
+SEEDS = 150
+PROCESSES = 2
+ROWS = 2_000  # the most rows of an input
+LAST = hard_timelines.LAST_PAST - 1
 
 
-def evidence_text(driver: Driver, month: slow_office.Month) -> str:
-    """The breaches of a driver's month, each with its evidence, indented by two blanks."""
-    held = driver.held()
-    marks = {minute: slow_rules.Mark(activity, manning == "crew") for minute, (activity, manning) in held.items()}
-    lines = []
-    for stretch in slow_office.stretches_of(held, driver.base):
-        spans = slow_rules.examined_spans(marks, stretch.monday, stretch.horizon)
-        for breach in slow_office.breaches_in([stretch], slow_office.month_minutes(month)):
-            kind, moment, since, amount = breach
-            lines.append(f"B{kind} {slow_office.ARTICLES[kind]} at {slow_reader.minute_text(moment)} "
-                         f"since {slow_reader.minute_text(since)} amount {amount}\n")
-            lines += [f"  {line}\n" for line in slow_evidence.evidence(spans, stretch.monday, stretch.horizon, breach)]
-    return "".join(lines)
+# Expected outputs
 
 
 def of_case(case: str) -> counting.Comparisons:
@@ -42,20 +39,68 @@ def of_case(case: str) -> counting.Comparisons:
     for words, given, _ in steps_of(case):
         office.answer(words, given)
     for name in names:
-        _, number, month = name.split("-", 2)
-        text = evidence_text(office.archive.driver(int(number)), slow_office.month_of(month))
-        yield f"{case}: {name}", text.splitlines(), read(os.path.join(expected, name)).decode().splitlines()
+        told, _ = office.answer(name.split("-", 2))
+        yield f"{case}: {name}", told.decode().splitlines(), read(os.path.join(expected, name)).decode().splitlines()
 
 
-def comparisons() -> counting.Comparisons:
-    """The comparisons of all folders; and whether each kind of breach occurs in them."""
-    found = set()
+def of_cases() -> counting.Comparisons:
+    """The comparisons of all folders; whether each kind of breach occurs in them, and what docs/RULES.md shows."""
+    texts = []
     for case in sorted(os.listdir(FOLDER)):
         for name, told, wanted in of_case(case):
-            found |= {line.split(" ")[0] for line in wanted if line.startswith("B")}
+            texts.append("".join(f"{line}\n" for line in wanted))
             yield name, told, wanted
-    yield "the kinds of breaches", sorted(found), sorted(f"B{kind}" for kind in KINDS)
+    yield "the kinds of breaches", kinds_in(texts), [f"B{kind}" for kind in KINDS]
+    shown = list(shown_in(read(os.path.join(TOP, "docs", "RULES.md")).decode()))
+    yield "the kinds that docs/RULES.md shows", kinds_in(shown), [f"B{kind}" for kind in KINDS]
+    for text in shown:
+        yield f"docs/RULES.md: {text.splitlines()[0]}", any(text in other for other in texts), True
+
+
+def kinds_in(texts: list[str]) -> list[str]:
+    """The kinds of the breaches in texts, each once."""
+    lines = [line for text in texts for line in text.splitlines()]
+    return sorted({line.split(" ")[0] for line in lines if line.startswith("B")}, key=lambda kind: int(kind[1:]))
+
+
+def shown_in(page: str) -> Iterator[str]:
+    """The evidence that a page shows: its indented blocks, without their indent."""
+    section = page.partition("\n## Evidence\n")[2].partition("\n## ")[0]
+    for block in section.split("\n\n"):
+        if block.startswith("    B"):
+            yield "".join(line.removeprefix("    ") + "\n" for line in block.splitlines())
+
+
+# Timelines near the limits
+
+
+def commands_of(seed: int) -> list[Command]:
+    """A driver, the hours of a timeline, and the readings of the months of its breaches."""
+    chance = random.Random(f"evidence {seed}")
+    spans, base, past = [
+        lambda: hard_timelines.timeline(seed, 1 + seed % 6),
+        lambda: hard_timelines.weekly_timeline(seed),
+        lambda: hard_timelines.chained_timeline(seed),
+    ][seed % 3]()
+    # The last minute that can be entered is one before the end of 2099.
+    spans = [(start, min(end, LAST), activity) for start, end, activity in spans if start < LAST]
+    commands: list[Command] = [(["register"], driver_csv(17, random_cards.HOLDERS[0], "anna-key-1", base // 1440, b"Anna"))]
+    for place in range(0, len(spans), ROWS):
+        commands.append((["enter", "17"], rows_csv(*rows_of(chance, spans[place : place + ROWS]))))
+    days = range(base // 1440, past // 1440 + 32)
+    return commands + [(["why", "17", month], b"") for month in sorted({date_text(day)[:7] for day in days if day < 47_482})]
+
+
+def of_seed(program: str, seed: int) -> counting.Comparisons:
+    """The comparisons of a timeline, of an archive in a file and in memory."""
+    yield from of_commands(program, f"seed {seed}", commands_of(seed))
+
+
+def comparisons(program: str) -> counting.Comparisons:
+    """All comparisons."""
+    yield from of_cases()
+    yield from pools.of_questions([(of_seed, os.path.abspath(program), seed) for seed in range(SEEDS)], PROCESSES)
 
 
 if __name__ == "__main__":
-    sys.exit(counting.count(comparisons()))
+    sys.exit(counting.count(comparisons(*sys.argv[1:])))

@@ -1,6 +1,6 @@
 #!/usr/bin/env python3
-"""Compares the readings of stretches, of a month of all drivers, of a month's chart, of card files and of the form for gaps with expected
-outputs and with the slow office.
+"""Compares the readings of stretches, of a month of all drivers, of a month's chart, of the evidence for its breaches, of card files and of
+the form for gaps with expected outputs and with the slow office.
 
 The folders of checks/readings have commands, their input files, and what the readings print after them, computed by a program that shares
 no code with this repository. Of a chart they have the lines of lib/charts.py. Then come random archives of two drivers: weeks with gaps and
@@ -49,9 +49,7 @@ def of_case(program, case):
             yield f"{case}: {' '.join(words)}", told(words, given), (f"{answer}\n".encode(), b"")
         expected = os.path.join(FOLDER, case, "expected")
         for name in sorted(os.listdir(expected)):
-            words = name.split("-", 2 if name.startswith("chart-") else 1)
-            if words[0] == "why":
-                continue  # no command prints evidence yet: compare_evidence.py compares these
+            words = name.split("-", 2 if name.startswith(("chart-", "why-")) else 1)
             text, fault = told(words)
             shown = charts.lines_of(text).encode() if words[0] == "chart" else text
             yield f"{case}: {name}", (shown, fault), (files.read(os.path.join(expected, name)), b"")
@@ -164,6 +162,7 @@ def commands_of(seed):
         for month in sorted(months):
             for number in map(str, NUMBERS):
                 add(["chart", number, month], b"")
+                add(["why", number, month], b"")
             add(["overview", month], b"")
             add(["incidents", month], b"")
         return forms

@@ -14,7 +14,7 @@ import sys
 from lib import counting, programs, tests
 
 FAULTS = ["error: Memory", "error: AllocError"]
-MODULES = ["sheets", "reports", "readings", "scans", "stretches"]
+MODULES = ["sheets", "reports", "readings", "evidence", "scans", "stretches"]
 WITHOUT_MEMORY = [  # ask for none
     "scans::a_year_of_office_hours_asks_for_no_memory",
     "sheets::numbers_are_read",
@@ -25,6 +25,9 @@ WITHOUT_MEMORY = [  # ask for none
     "stretches::spans_come_in_order",
 ]
 COLLECTING = [
+    "evidence::breaches_have_their_evidence",
+    "evidence::evidence_needs_a_range",
+    "evidence::stretches_of_another_line_have_no_evidence",
     "readings::a_form_is_printed",
     "readings::an_overview_is_cut_at_the_ends_of_the_month",
     "readings::an_overview_is_printed",

@@ -194,7 +194,7 @@ def of_worked(program, name):
 
 def readings_of(driver, months):
     """The readings of a driver: the arguments of each."""
-    words = [f"{word} {{}} {month}" for word in ["spans", "gaps", "sheet", "chart"] for month in months]
+    words = [f"{word} {{}} {month}" for word in ["spans", "gaps", "sheet", "chart", "why"] for month in months]
     words += ["breaches {}", "owed {}", "entries {}", "files {}", "file {} 1", "file {} 2", "withdraw {} 1"]
     return [text.format(driver).split(" ") for text in words]
 

@@ -452,6 +452,18 @@ LEAVE = [
 ]
 
 
+def letters(office):
+    """The evidence for the breaches of a month; and that of the page, of a driver who has done what the letter says."""
+    yield office.typed("./tacho why archive.db 17 2024-03", office.told("why", "17", "2024-03"))
+    shown = office.block("B1 Art 7 at 2024-03-04 13:00")
+    hours = [(4, 8, 8.5, "work"), (4, 8.5, 17, "drive")]
+    yield "the driver of the letter", office.told("register", given=driver_like_anna(24, b"gina-key-1", "4")), "registered 24\n"
+    rows = [(19_786 * 1440, 19_786 * 1440 + 480, "rest")]
+    rows += [(19_786 * 1440 + round(60 * start), 19_786 * 1440 + round(60 * past), what) for _, start, past, what in hours]
+    yield "their hours", office.told("enter", "24", given=hours_csv(rows)), "entered 1 to 3\n"
+    yield "the evidence of the page", office.told("why", "24", "2024-03"), shown
+
+
 def report_of(office, number, key, digit, done, last):
     """The breaches of a new driver who has done this, up to the end of a day of March."""
     base = 19_786 * 1440
@@ -675,7 +687,7 @@ def comparisons(program: str) -> counting.Comparisons:
     with tempfile.TemporaryDirectory() as folder:
         office = Office(program, folder)
         try:
-            for part in (front, beginnings, weeks, spreadsheets, months, inspections, readings, backups, updates, services):
+            for part in (front, beginnings, weeks, spreadsheets, months, inspections, readings, letters, backups, updates, services):
                 yield from part(office)
         finally:
             office.end()

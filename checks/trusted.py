@@ -41,7 +41,7 @@ LAWYER = Order(
         ("duty days, weeks, and weekly rests that are owed", "tacho_law: Days Weeks Debts"),
         ("the week in which a weekly rest is counted, and where no choice of weeks serves", "tacho_law: Choice Anew"),
         ("the breaches B1 to B10, each once, all of them and in order", "tacho_law: Breaches Exactly Order"),
-        ("the evidence for a breach: what a person needs to check it", "tacho_evidence: Driven Evidence"),
+        ("the evidence for a breach: what a person needs to check it", "tacho_evidence: Driven Evidence OfReport"),
         ("where an examination begins again, and what isn't examined", "tacho_stretches: Start Stretches Ranges Near"),
         ("two laws: choices of weeks by outcomes, and payment of debts rest by rest",
          "tacho_choice: Counted Step Weeks Laws; tacho_law: ByRuns"),
@@ -82,7 +82,7 @@ AUDITOR = Order(
         LAWYER,
         ("texts that come in and go out",
          "tacho_time: Text Reading Calendar; tacho_sheet: Rows Words Entries Driver Number Text Reports Done Lines"
-         " Stretches Months Form Chart"),
+         " Stretches Months Form Chart Evidence Why"),
         ("the program's arguments, and what it does without an archive and at one",
          "tacho_cli: Words Office Command Dump Card Holder Fault"),
         ("the rest: streams, out of memory, and terms of spans and lines",

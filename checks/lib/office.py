@@ -19,8 +19,10 @@ STORE_FAILED = (b"S12 store failed\n", 3, b"")
 READINGS = [
     "spans 17 2024-03",
     "gaps 17 2024-03",
-    "sheet 17 2024-03", "chart 17 2024-03",
+    "sheet 17 2024-03",
+    "chart 17 2024-03",
     "breaches 17",
+    "why 17 2024-03",
     "owed 17",
     "entries 17",
     "file 17 1",

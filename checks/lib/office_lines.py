@@ -8,7 +8,7 @@ from slow.slow_office import Command
 
 LINES = 30
 FIRST_DAY = 10_957  # 2000-01-01, the first day of a month that is read
-READINGS = ["spans", "gaps", "sheet", "chart", "breaches", "breaches", "owed", "owed", "entries", "files", "file", "drivers", "migrate"]
+READINGS = ["spans", "gaps", "sheet", "chart", "why", "breaches", "owed", "owed", "entries", "files", "file", "drivers", "migrate"]
 READINGS += ["stretches", "stretches", "debts", "overview", "incidents", "form"]
 BAD_DRIVERS = ["017", "0", "1000000", "", "+17", "1e3", "\u0661\u0667"]
 BAD_NUMBERS = ["0", "01", "1000001", "x", "99999999999999999999"]
@@ -26,6 +26,7 @@ BAD: dict[str, list[list[str]]] = {
     "gaps": [BAD_DRIVERS, BAD_MONTHS],
     "sheet": [BAD_DRIVERS, BAD_MONTHS],
     "chart": [BAD_DRIVERS, BAD_MONTHS],
+    "why": [BAD_DRIVERS, BAD_MONTHS],
     "file": [BAD_DRIVERS, BAD_NUMBERS],
     "drivers": [],
     "migrate": [],
@@ -90,7 +91,7 @@ class Lines(random_commands.Commands):
             return [word], b""
         if word in ("overview", "incidents"):
             return [word, self.month(driver)], b""
-        if word in ("spans", "gaps", "sheet", "chart"):
+        if word in ("spans", "gaps", "sheet", "chart", "why"):
             return [word, str(number), self.month(driver)], b""
         if word == "file":
             count = len(driver.downloads) if driver else 0

@@ -181,7 +181,7 @@ ROWS = {
         refused("base 18 2024-03-12", "S4 unknown driver"),
         refused("sheet 18 2024-13", "Z2 no such date"),
         *[refused(f"{word} 18", "S4 unknown driver") for word in ["breaches", "owed", "entries", "files"]],
-        *[refused(f"{word} 18 2024-03", "S4 unknown driver") for word in ["spans", "gaps", "sheet", "chart"]],
+        *[refused(f"{word} 18 2024-03", "S4 unknown driver") for word in ["spans", "gaps", "sheet", "chart", "why"]],
         *[refused(f"{word} 18 1", "S4 unknown driver") for word in ["withdraw", "file"]],
         refused("enter 18", "S4 unknown driver", FREE_DAYS),
     ],

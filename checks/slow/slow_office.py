@@ -10,7 +10,7 @@ import hashlib
 import re
 from collections.abc import Callable, Iterable, Sequence
 
-from slow import slow_archive, slow_csv, slow_reader, slow_rules
+from slow import slow_archive, slow_csv, slow_evidence, slow_reader, slow_rules
 from slow.slow_archive import Marks, Refusal
 from slow.slow_rules import FoundBreach, FoundDebt, Report
 
@@ -183,13 +183,15 @@ def horizon_text(horizon: int, cause: str) -> str:
     return f"EXAMINED TO {slow_reader.minute_text(horizon)} {cause.lower()}\n"
 
 
+def breach_text(breach: FoundBreach) -> str:
+    """The line of a breach."""
+    kind, moment, since, amount = breach
+    return f"B{kind} {ARTICLES[kind]} at {slow_reader.minute_text(moment)} since {slow_reader.minute_text(since)} amount {amount}\n"
+
+
 def breaches_text(horizon: int, cause: str, breaches: Iterable[FoundBreach]) -> str:
     """Breaches, and where the examination ends."""
-    lines = [
-        f"B{kind} {ARTICLES[kind]} at {slow_reader.minute_text(moment)} since {slow_reader.minute_text(since)} amount {amount}\n"
-        for kind, moment, since, amount in breaches
-    ]
-    return "".join(lines) + horizon_text(horizon, cause)
+    return "".join(map(breach_text, breaches)) + horizon_text(horizon, cause)
 
 
 def standing_of(horizon: int, deadline: int, payer: int | None) -> str:
@@ -279,6 +281,20 @@ def debts_text(stretches: Iterable[Stretch]) -> str:
 def breaches_in(stretches: Iterable[Stretch], minutes: range) -> list[FoundBreach]:
     """The breaches of all stretches with their moment among some minutes."""
     return [breach for stretch in stretches for breach in stretch.breaches if breach[1] in minutes]
+
+
+def why_text(driver: slow_archive.Driver, month: Month) -> str:
+    """The breaches of a month, each with its evidence, which is indented by two blanks."""
+    held = driver.held()
+    marks = {minute: slow_rules.Mark(activity, manning == "crew") for minute, (activity, manning) in held.items()}
+    lines = []
+    for stretch in stretches_of(held, driver.base):
+        breaches = breaches_in([stretch], month_minutes(month))
+        spans = slow_rules.examined_spans(marks, stretch.monday, stretch.horizon) if breaches else []
+        for breach in breaches:
+            lines.append(breach_text(breach))
+            lines += [f"  {line}\n" for line in slow_evidence.evidence(spans, stretch.monday, stretch.horizon, breach)]
+    return "".join(lines)
 
 
 def overview_row(driver: slow_archive.Driver, minutes: range) -> str:
@@ -451,6 +467,7 @@ class Office:
             "sheet": lambda: self.sheet(*others),
             "chart": lambda: self.chart(*others),
             "breaches": lambda: self.breaches(*others),
+            "why": lambda: self.why(*others),
             "owed": lambda: self.owed(*others),
             "entries": lambda: self.entries(*others),
             "file": lambda: self.file(*others),
@@ -540,6 +557,11 @@ class Office:
         driver = self.driver(number)
         horizon, cause, breaches, _ = report_of(driver.held(), driver.base)
         return breaches_text(horizon, cause, breaches)
+
+    def why(self, number: str, month: str) -> str:
+        """The breaches of a month, each with its evidence."""
+        driver, when = self.month(number, month)
+        return why_text(driver, when)
 
     def owed(self, number: str) -> str:
         """What a driver is owed."""
