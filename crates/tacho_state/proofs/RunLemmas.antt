@@ -1,10 +1,10 @@
 -- A run of calls, and the states that a crash after it may leave.
-use Rattle.std.proofs.Common.{◌≡◌, ℕ, List, [], ◌∷◌, ◌++◌, Result, Ok, Err, refl, sym, subst}
+use Rattle.std.proofs.Common.{ℕ, List, [], ◌∷◌, ◌++◌, Result, Ok, Err, sym, subst}
 use Rattle.tacho_state.specs.declared.fault.StoreFault.{StoreFault}
-use Rattle.tacho_state.specs.declared.fault.StoreFault.TheVariants.{Memory, Store, Card}
+use Rattle.tacho_state.specs.declared.fault.StoreFault.TheVariants.{Card}
 use Rattle.tacho_state.specs.State.{State}
 use Rattle.tacho_state.specs.Steps.{Turn}
-use Rattle.tacho_state.specs.Acts.{Acts, Reads, IsAnswered, IsOfNoFile, state_left_by}
+use Rattle.tacho_state.specs.Acts.{Acts, Reads, IsAnswered, IsOfNoFile}
 use Rattle.tacho_state.specs.Runs.{Call, without_value, state_after, IsDecided, AreAnswered, IsCall, IsRun}
 
 -- a fault that is settled, and not a file's, is an answer

@@ -1,5 +1,5 @@
 -- Trusted: Consecutive calls on an archive, and the states that a crash after them may leave.
-use Rattle.std.specs.Prelude.{◌≡◌, List, [], ◌∷◌, Result, Ok, Err, OnOk}
+use Rattle.std.specs.Prelude.{◌≡◌, List, [], ◌∷◌, Result, Ok, Err}
 use Rattle.tacho_state.specs.declared.fault.StoreFault.{StoreFault}
 use Rattle.tacho_state.specs.declared.fault.StoreFault.TheVariants.{Card}
 use Rattle.tacho_state.specs.State.{State}

@@ -118,6 +118,9 @@ with_marked number d = record d { entries = marked_from 1 number d.entries }
 abbrev pub with_base : ℕ → Driver → Driver
 with_base base d = record d { base = base }
 
+abbrev pub with_key : List ℕ → Driver → Driver
+with_key key d = record d { key = key }
+
 -- no entry is empty
 abbrev pub AreFull : List Entry → Type 0
 AreFull [] = Unit {0}

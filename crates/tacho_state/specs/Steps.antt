@@ -1,6 +1,6 @@
 -- Trusted in part: What each command and each reading answers, and the state after it. A refusal leaves the state as it was. If several refusals
 -- apply, the first in the order S1 to S14 is answered; a fault of the card file (S11) comes before all others.
-use Rattle.std.specs.Prelude.{ℕ, ◌+◌, ◌%◌, ◌==◌, nat_lt, Bool, List, [], ◌∷◌, ◌++◌, length, Option, Some, None, is_some, option_map, Result, Ok, Err, bytes_eq, if◌then◌else◌}
+use Rattle.std.specs.Prelude.{ℕ, ◌+◌, ◌%◌, ◌==◌, nat_lt, not, Bool, false, List, [], ◌∷◌, ◌++◌, length, Option, Some, None, is_some, option_map, Result, Ok, Err, bytes_eq, if◌then◌else◌}
 use Rattle.tacho_time.specs.declared.span.Span.{Span}
 use Rattle.tacho_time.specs.declared.span.Mark.{Mark}
 use Rattle.tacho_card.specs.declared.fault.CardFault.{CardFault}
@@ -9,7 +9,7 @@ use Rattle.tacho_state.specs.declared.fault.StoreFault.TheVariants.{DriverTaken,
 use Rattle.tacho_state.specs.declared.entry.Entry.{Entry as Listed}
 use Rattle.tacho_state.specs.declared.imported.Imported.{Imported}
 use Rattle.tacho_state.specs.declared.imported.Imported.TheVariants.{Added, Repeated}
-use Rattle.tacho_state.specs.State.{Download, Entry, Driver, State, given_spans, entered_spans, held_spans, held_mark, driver_of, driver_with_key, holding, put, download_from, entry_from, with_download, with_batch, with_marked, with_base}
+use Rattle.tacho_state.specs.State.{Download, Entry, Driver, State, given_spans, entered_spans, held_spans, held_mark, driver_of, driver_with_key, holding, put, download_from, entry_from, with_download, with_batch, with_marked, with_base, with_key}
 use Rattle.tacho_state.specs.Least.{least_conflict, is_within}
 
 -- an answer, and the state after it
@@ -97,7 +97,7 @@ enter_own batch d = entered_by batch d (least_conflict (held_spans d ++ entered_
 abbrev pub enter_step : ℕ → List Entry → State → Turn ℕ
 enter_step n batch s = own_turn (enter_own batch) s (driver_of n s)
 
--- ---- withdraw, rebase
+-- ---- withdraw, rebase, rekey
 
 -- S7, S8
 abbrev pub withdrawn_by : ℕ → Driver → Option Entry → Result (Unit {0} × Driver) StoreFault
@@ -116,6 +116,19 @@ rebase_own base d = if is_monday base then Ok (tt, with_base base d) else Err No
 
 abbrev pub rebase_step : ℕ → ℕ → State → Turn (Unit {0})
 rebase_step n base s = own_turn (rebase_own base) s (driver_of n s)
+
+-- it is a driver, and not the one with this number
+abbrev pub is_another : ℕ → Option Driver → Bool
+is_another n None = false
+is_another n (Some d) = not (d.number == n)
+
+abbrev pub rekey_own : List ℕ → Own (Unit {0})
+rekey_own key d = Ok (tt, with_key key d)
+
+-- S2 if another driver has the key; the driver's own key is no fault
+abbrev pub rekey_step : ℕ → List ℕ → State → Turn (Unit {0})
+rekey_step n key s =
+    if is_another n (driver_with_key key s) then refusal_turn KeyTaken s else own_turn (rekey_own key) s (driver_of n s)
 
 -- ---- readings
 

@@ -2,10 +2,11 @@ ghost use Rattle.std.specs.Prelude.{◌≡◌, ◌⊎◌, ◌∷◌, ◌≤◌, 
 ghost use Rattle.tacho_line.specs.Line.{mark_at};
 ghost use Rattle.tacho_card.specs.declared.fault.CardFault.{CardFault};
 ghost use Rattle.tacho_state.specs.State.{State};
-ghost use Rattle.tacho_state.specs.Steps.{Content, register_step, import_step, enter_step, withdraw_step, rebase_step, owner, name_reading, line_reading, entries_reading, file_reading, report_reading};
+ghost use Rattle.tacho_state.specs.Steps.{Content, register_step, import_step, enter_step, withdraw_step, rebase_step, rekey_step, owner, name_reading, line_reading, entries_reading, file_reading, report_reading};
 ghost use Rattle.tacho_state.specs.Reported.{AreStretchesOf, IsHeldWithin, IsDriverReport};
 ghost use Rattle.tacho_stretches.specs.Stretches.{judged_of};
 ghost use Rattle.tacho_state.specs.Batch.{IsBatch, batch_of};
+ghost use Rattle.tacho_state.specs.Limits.{IsKey};
 ghost use Rattle.tacho_state.specs.Registration.{IsReadDay};
 ghost use Rattle.tacho_state.specs.Content.{FileTells, part_number};
 ghost use Rattle.tacho_state.specs.Files.{files_reading, told_file};
@@ -108,6 +109,12 @@ pub trait Keeper {
         requires { IsReadDay base }
         ensures of_no_file { IsOfNoFile result }
         ensures rebased { Acts stands is_clean is_live leaves is_same is_same_of (λ _. tt) self.old self.new result (rebase_step driver base) };
+
+    /// Sets the key, of 8 to 64 letters, digits and hyphens, of a driver: S2 if another driver has it, S4.
+    fn rekey(&mut self, driver: u32, key: &str) -> Result<(), StoreFault>
+        requires { IsKey key.now }
+        ensures of_no_file { IsOfNoFile result }
+        ensures rekeyed { Acts stands is_clean is_live leaves is_same is_same_of (λ _. tt) self.old self.new result (rekey_step driver key.now) };
 
     /// Returns the number of the driver with this key, if there is one.
     fn who(&mut self, key: &[u8]) -> Result<Option<u32>, StoreFault>
