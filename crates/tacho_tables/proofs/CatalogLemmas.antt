@@ -1,11 +1,12 @@
 -- A catalog lists one schema only.
-use Rattle.std.proofs.Common.{◌≡◌, ap, arith, length, refl, subst}
+use Rattle.std.proofs.Common.{◌≡◌, ap, arith, false, length, refl, subst, true}
 use Rattle.sqlite.specs.Effect.{Database, IsDatabase}
 use Rattle.sqlite.specs.Schema.{Schema}
 use Rattle.sqlite.specs.Tree.{Trees}
 use Rattle.sqlite_catalog.specs.Listing.{IsSound}
 use Rattle.sqlite_catalog.proofs.ReadLemmas.{lists_once}
-use Rattle.tacho_tables.specs.Schema.{Layout, Made, Carried, archive_schema, old_schema, entry_tree}
+use Rattle.sqlite_schema.specs.Names.{same_name}
+use Rattle.tacho_tables.specs.Schema.{Layout, Made, Carried, archive_schema, old_schema, entry_tree, has_archive_tables}
 use Rattle.tacho_tables.specs.Rows.{AreRowsOf, entry_columns}
 use Rattle.tacho_tables.specs.Tables.{Tables, HasTables, OldTables, HasOldTables, IsArchive}
 
@@ -15,6 +16,16 @@ one_schema Made Made same = refl
 one_schema Made Carried same = absurd (let count = ap (λ (s : Schema). length s.tables) same in omega (arith, count))
 one_schema Carried Made same = absurd (let count = ap (λ (s : Schema). length s.tables) same in omega (arith, count))
 one_schema Carried Carried same = refl
+
+-- each layout has the tables by which an archive is known, and schema 1 hasn't
+archive_is_known : (layout : Layout) → has_archive_tables (archive_schema layout) ≡ true
+unfolding same_name
+archive_is_known Made = refl
+archive_is_known Carried = refl
+
+old_is_unknown : has_archive_tables old_schema ≡ false
+unfolding same_name
+old_is_unknown = refl
 
 -- the rows of a database have one layout only
 pub one_layout : (db : Trees) (a b : Layout) → IsSound (archive_schema a) db → IsSound (archive_schema b) db → a ≡ b

@@ -6,6 +6,7 @@ use Rattle.std.proofs.lemmas.Bool.{and_parts, not-true}
 use Rattle.std.proofs.lemmas.List.Sorted.{IsPermutation-trans}
 use Rattle.sqlite_rules.proofs.PlaceLemmas.{given}
 use Rattle.sqlite_rules.specs.Calls.{ids_of}
+use Rattle.sqlite.specs.declared.types.Value.{Value}
 use Rattle.sqlite.specs.declared.types.Value.TheVariants.{Null, Int, Text, Blob}
 use Rattle.sqlite.specs.Order.{Row}
 use Rattle.sqlite.specs.Cast.{cast_row}
@@ -19,14 +20,14 @@ use Rattle.sqlite.proofs.Callers.{reads_as}
 use Rattle.tacho_tables.specs.Schema.{Layout, archive_schema}
 use Rattle.tacho_tables.specs.Schema as made
 use Rattle.tacho_tables.specs.Rows.{DriverRow, driver_row, AreNumberedRowsOf}
-use Rattle.tacho_tables.specs.Tables.{IsArchive, Turns, has_number, has_secret, has_holder, with_row_base, with_downloads, with_entries}
+use Rattle.tacho_tables.specs.Tables.{IsArchive, Turns, has_number, has_secret, has_holder, with_row_base, with_row_key, with_downloads, with_entries}
 use Rattle.tacho_tables.proofs.Answers.{simple, passes, listed, shows, eq_test, text_test, blob_test}
 use Rattle.tacho_tables.proofs.Idle.{idle}
 use Rattle.tacho_tables.proofs.Kept.{with_drivers}
 use Rattle.tacho_tables.proofs.Places.{drivers_listed}
 use Rattle.tacho_tables.proofs.Numbered.{numbered_put, numbered_shown, numbered_updated}
 use Rattle.tacho_tables.proofs.SpanLemmas.{and-true, none_given}
-use Rattle.tacho_tables.proofs.Statements.{IsStatement, IsReading, column_is, driver_values, driver_insert_text, driver_insert_is, with_base_shown, with_count_shown, base_text, base_is, count_text, count_is, with_entry_count_shown, entry_count_text, entry_count_is}
+use Rattle.tacho_tables.proofs.Statements.{IsStatement, IsReading, column_is, driver_values, driver_insert_text, driver_insert_is, with_base_shown, with_count_shown, base_text, base_is, with_key_shown, key_text, key_is, count_text, count_is, with_entry_count_shown, entry_count_text, entry_count_is}
 use Rattle.tacho_tables.proofs.TurnLemmas.{turns}
 use Rattle.tacho_tables.proofs.Writes.{inserted, updated, cast_null, cast_int}
 
@@ -85,10 +86,10 @@ shows_drivers text tests terms names each params t deaf show same old new rows i
 
 -- ---- changes
 
-module _ (old new : State) (driver value count : ℕ) (is : IsArchive old.now) where
+module _ (old new : State) (driver : ℕ) (value : Value) (count : ℕ) (is : IsArchive old.now) where
   -- the parameters
   abbrev params : Row
-  params = Int (pos driver) ∷ Int (pos value) ∷ []
+  params = Int (pos driver) ∷ value ∷ []
 
   -- the row that is stored for a row that an UPDATE shows
   abbrev new_of : Row → Row
@@ -124,23 +125,38 @@ module _ (old new : State) (driver value count : ℕ) (is : IsArchive old.now) w
       number_passes : (x : DriverRow) → passes (column_is 0) params (driver_row x) ≡ has_number driver x
       number_passes x = rw (eq_test x.driver driver) (and-true (x.driver == driver))
 
+-- it sets the driver's key
+pub sets_key : (old new : State) (driver : ℕ) (key : List ℕ) (count : ℕ) → IsArchive old.now
+    → Executes key_text (Int (pos driver) ∷ Text key ∷ []) old new (Ok count)
+    → Turns old new (λ a. record a { drivers = map (with_row_key driver key) a.drivers })
+sets_key old new driver key count is h =
+    changes old new driver (Text key) count is key_text with_key_shown (λ x. record x { secret = key }) key_is (λ x. refl)
+    (λ x. rw (cast_int (pos x.driver), cast_null, cast_int (pos x.base), cast_int (pos x.downloads), cast_int (pos x.entries)) refl) h
+
+module _ (old new : State) (driver value count : ℕ) (is : IsArchive old.now) where
+  -- the parameters, of which the second is a number
+  abbrev numbers : Row
+  numbers = Int (pos driver) ∷ Int (pos value) ∷ []
+
   -- it sets the driver's base
-  pub sets_base : Executes base_text params old new (Ok count)
+  pub sets_base : Executes base_text numbers old new (Ok count)
       → Turns old new (λ a. record a { drivers = map (with_row_base driver value) a.drivers })
   sets_base h =
-      changes base_text with_base_shown (λ x. record x { base = value }) base_is (λ x. refl)
+      changes old new driver (Int (pos value)) count is base_text with_base_shown (λ x. record x { base = value }) base_is (λ x. refl)
       (λ x. rw (cast_int (pos x.driver), cast_null, cast_int (pos value), cast_int (pos x.downloads), cast_int (pos x.entries)) refl) h
 
   -- it sets how many numbers were given out to the driver's downloads
-  pub sets_count : Executes count_text params old new (Ok count)
+  pub sets_count : Executes count_text numbers old new (Ok count)
       → Turns old new (λ a. record a { drivers = map (with_downloads driver value) a.drivers })
   sets_count h =
-      changes count_text with_count_shown (λ x. record x { downloads = value }) count_is (λ x. refl)
+      changes old new driver (Int (pos value)) count is count_text with_count_shown (λ x. record x { downloads = value }) count_is
+      (λ x. refl)
       (λ x. rw (cast_int (pos x.driver), cast_null, cast_int (pos x.base), cast_int (pos value), cast_int (pos x.entries)) refl) h
 
   -- it sets how many numbers were given out to the driver's entries
-  pub sets_entry_count : Executes entry_count_text params old new (Ok count)
+  pub sets_entry_count : Executes entry_count_text numbers old new (Ok count)
       → Turns old new (λ a. record a { drivers = map (with_entries driver value) a.drivers })
   sets_entry_count h =
-      changes entry_count_text with_entry_count_shown (λ x. record x { entries = value }) entry_count_is (λ x. refl)
+      changes old new driver (Int (pos value)) count is entry_count_text with_entry_count_shown (λ x. record x { entries = value })
+      entry_count_is (λ x. refl)
       (λ x. rw (cast_int (pos x.driver), cast_null, cast_int (pos x.base), cast_int (pos x.downloads), cast_int (pos value)) refl) h

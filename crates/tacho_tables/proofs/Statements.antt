@@ -222,6 +222,10 @@ by_holder_text = codes "SELECT driver FROM drivers WHERE holder = ?1"
 abbrev pub base_text : List ℕ
 base_text = codes "UPDATE drivers SET base = ?2 WHERE driver = ?1"
 
+-- the SQL that sets a driver's key
+abbrev pub key_text : List ℕ
+key_text = codes "UPDATE drivers SET secret = ?2 WHERE driver = ?1"
+
 -- the SQL that sets how many numbers were given out to a driver's downloads
 abbrev pub count_text : List ℕ
 count_text = codes "UPDATE drivers SET downloads = ?2 WHERE driver = ?1"
@@ -237,6 +241,10 @@ column_is place = op2 (Compare Eq Binary) (col 1 place) (col 0 0) ∷ []
 -- the row of a driver with base ?2, after its old number
 abbrev pub with_base_shown : List Term
 with_base_shown = col 1 0 ∷ col 1 0 ∷ lit Null ∷ col 1 2 ∷ col 1 3 ∷ col 0 1 ∷ col 1 5 ∷ col 1 6 ∷ col 1 7 ∷ []
+
+-- the row of a driver with key ?2, after its old number
+abbrev pub with_key_shown : List Term
+with_key_shown = col 1 0 ∷ col 1 0 ∷ lit Null ∷ col 1 2 ∷ col 0 1 ∷ col 1 4 ∷ col 1 5 ∷ col 1 6 ∷ col 1 7 ∷ []
 
 -- the row of a driver with count ?2, after its old number
 abbrev pub with_count_shown : List Term
@@ -292,6 +300,13 @@ pub base_is : (layout : Layout)
 unfolding understood everything
 base_is Made = record { meant = refl; plain = (refl, refl) }
 base_is Carried = record { meant = refl; plain = (refl, refl) }
+
+-- a change of the key
+pub key_is : (layout : Layout)
+    → IsStatement (archive_schema layout) key_text (Update 1 (record { lets = []; body = simple 1 (column_is 0) with_key_shown [] }))
+unfolding understood everything
+key_is Made = record { meant = refl; plain = (refl, refl) }
+key_is Carried = record { meant = refl; plain = (refl, refl) }
 
 -- a change of the count
 pub count_is : (layout : Layout)

@@ -1,6 +1,6 @@
 -- Trusted in part: The schemas of the archive, and the SQL that makes their tables. Schema 2 has six tables. Schema 1 has `entries` in the
 -- place of `entry_rows`. An archive that was carried over has both.
-use Rattle.std.specs.Prelude.{true, false, [], ◌∷◌, Some, None, codes, List, ℕ, pos, Bool, ◌&&◌, is_some}
+use Rattle.std.specs.Prelude.{true, false, [], ◌∷◌, Option, Some, None, option_and_then, codes, List, length, slice_get, ℕ, pos, Bool, ◌&&◌, ◌==◌, is_some}
 use Rattle.sqlite.specs.Collation.TheVariants.{Binary}
 use Rattle.sqlite.specs.declared.types.Value.TheVariants.{Null, Int}
 use Rattle.sqlite.specs.Table.{Table}
@@ -179,6 +179,19 @@ archive_names = codes "entry_rows" ∷ shared_names
 
 abbrev pub old_names : List (List ℕ)
 old_names = codes "entries" ∷ shared_names
+
+-- it is a table, and has this many columns
+abbrev pub is_of_width : ℕ → Option Table → Bool
+is_of_width count None = false
+is_of_width count (Some table) = length table.columns == count
+
+-- the schema has a table of this name, with this many columns
+abbrev pub has_columns : List ℕ → ℕ → Schema → Bool
+has_columns name count schema = is_of_width count (option_and_then (slice_get schema.tables) (table_named schema name))
+
+-- the schema has the tables of schema 2, by name, and `entry_rows` has as many columns as in schema 2
+abbrev pub has_archive_tables : Schema → Bool
+has_archive_tables schema = has_tables archive_names schema && has_columns (codes "entry_rows") 8 schema
 
 -- the tree numbers by which the store knows the rows of each table; an index has a tree too
 abbrev pub meta_rows : ℕ

@@ -4,7 +4,7 @@ ghost use Rattle.std.specs.Prelude.{◌≡◌, ◌↔◌, [], false, OnOk, IsErr
 ghost use Rattle.sqlite.specs.State.{HasCleanDisk, Survives};
 ghost use Rattle.sqlite.specs.Held.{state};
 ghost use Rattle.sqlite_schema.specs.Names.{table_named};
-ghost use Rattle.tacho_tables.specs.Schema.{no_schema, has_tables as has_tables_of, shared_names, archive_names, old_names};
+ghost use Rattle.tacho_tables.specs.Schema.{no_schema, has_tables as has_tables_of, has_columns as has_columns_of, has_archive_tables, shared_names, old_names};
 ghost use Rattle.tacho_tables.specs.Calls.{Asks};
 
 use crate::fault::TableFault;
@@ -35,11 +35,25 @@ fn has_shared<S: Alter>(conn: &Connection<S>) -> bool
         && has_table(conn, "held")
 }
 
-/// True if the store has the tables of schema 2, by name.
-pub fn has_archive<S: Alter>(conn: &Connection<S>) -> bool
-    ensures { result ≡ has_tables_of archive_names (state S.Store conn.now).now.schema }
+/// True if the store has a table of this name, with this many columns.
+fn has_columns<S: Alter>(conn: &Connection<S>, name: &str, count: usize) -> bool
+    ensures { result ≡ has_columns_of name.now count (state S.Store conn.now).now.schema }
 {
-    has_table(conn, "entry_rows") && has_shared(conn)
+    let schema = conn.schema();
+    let Some(place) = schema.table_named(name.as_bytes()) else {
+        return false;
+    };
+    let Some(table) = schema.tables.get(place) else {
+        return false;
+    };
+    table.columns.len() == count
+}
+
+/// True if the store has the tables of schema 2, by name, and `entry_rows` has as many columns as in schema 2.
+pub fn has_archive<S: Alter>(conn: &Connection<S>) -> bool
+    ensures { result ≡ has_archive_tables (state S.Store conn.now).now.schema }
+{
+    has_table(conn, "entry_rows") && has_shared(conn) && has_columns(conn, "entry_rows", 8)
 }
 
 /// True if the store has the tables of schema 1, by name.

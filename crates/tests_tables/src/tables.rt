@@ -106,6 +106,38 @@ fn is_driver(
 }
 
 #[test]
+fn keys_are_changed_but_never_shared(rt: HostRuntime) -> Result<(), Fail> {
+    let mut conn = Connection::open_in_memory(rt.alloc())?;
+    let mut tx = conn.transaction();
+    making::make_all(&mut tx)?;
+    drivers::insert(&mut tx, 17, &[0x0d, 0x44], "anna-key-1", 19_786, "Anna")?;
+    drivers::insert(&mut tx, 18, &[0x0d, 0x45], "bert-key-1", 19_787, "Bert")?;
+    drivers::set_key(&mut tx, 18, "bert-key-2")?;
+    drivers::set_key(&mut tx, 17, "anna-key-1")?;
+    assert_same(
+        &rt,
+        drivers::set_key(&mut tx, 18, "anna-key-1"),
+        Err(TableFault::Store),
+    );
+    assert_same(
+        &rt,
+        drivers::number_by_secret(&mut tx, b"anna-key-1")?,
+        Some(17),
+    );
+    assert_same(
+        &rt,
+        drivers::number_by_secret(&mut tx, b"bert-key-1")?,
+        None,
+    );
+    assert_same(
+        &rt,
+        drivers::number_by_secret(&mut tx, b"bert-key-2")?,
+        Some(18),
+    );
+    Ok(())
+}
+
+#[test]
 fn held_spans_by_where_they_begin(rt: HostRuntime) -> Result<(), Fail> {
     let alloc = rt.alloc();
     let mut conn = Connection::open_in_memory(alloc)?;
