@@ -94,6 +94,10 @@ bytes_true xs ys e = (bytes_eq-Decides xs ys).0 e
 pub bytes_false : (xs ys : List ℕ) → bytes_eq xs ys ≡ false → xs ≢ ys
 bytes_false xs ys e f = true≢false (sym ((bytes_eq-Decides xs ys).1 f) ∙ e)
 
+-- bytes are equal to themselves
+pub bytes_eq_self : (xs : List ℕ) → bytes_eq xs xs ≡ true
+bytes_eq_self xs = (bytes_eq-Decides xs xs).1 refl
+
 -- bytes that differ don't pass it
 pub bytes_not : (xs ys : List ℕ) → xs ≢ ys → bytes_eq xs ys ≡ false
 bytes_not xs ys d = go (bytes_eq xs ys) refl where

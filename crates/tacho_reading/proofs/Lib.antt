@@ -3,6 +3,7 @@ pub mod RowLemmas
 pub mod FaultyLemmas
 pub mod StateLemmas
 pub mod DriverRowLemmas
+mod KeyLemmas
 pub mod NearRowLemmas
 pub mod DownloadLemmas
 pub mod EntryLemmas

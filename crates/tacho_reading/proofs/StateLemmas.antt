@@ -82,17 +82,49 @@ put_has n d (x ∷ s) h = go (x.number == d.number) refl h (put_has n d s) where
   go true o w more = ((λ e. w.0 (sym (eq_true x.number d.number o) ∙ e)), w.1)
   go false o w more = (w.0, more w.1)
 
--- no new key is added
-no_key_put : (key : List ℕ) (n : ℕ) (d old : Driver) (s : State) → driver_of n s ≡ Some old → d.number ≡ n → d.key ≡ old.key
-    → HasNoKey key s → HasNoKey key (put d s)
-no_key_put key n d old [] e k same h = tt
-no_key_put key n d old (x ∷ s) e k same h = go (x.number == d.number) refl (λ w. no_key_put key n d old s w k same h.1) where
-  go : (b : Bool) → (x.number == d.number) ≡ b → (driver_of n s ≡ Some old → HasNoKey key (put d s))
-      → HasNoKey key (cond b (d ∷ s) (x ∷ put d s))
-  go true o more =
-      let here : (x.number == n) ≡ true = subst (λ (j : ℕ). (x.number == j) ≡ true) k o in
-      ((λ g. h.0 (ap (λ (y : Driver). y.key) (found_head n x old s e here) ∙ sym same ∙ g)), h.1)
-  go false o more = (h.0, more (found_tail n x old s e (subst (λ (j : ℕ). (x.number == j) ≡ false) k o)))
+-- no driver with another number has the key
+abbrev pub IsKeyFreeFor : ℕ → List ℕ → State → Type 0
+IsKeyFreeFor n key [] = Unit {0}
+IsKeyFreeFor n key (x ∷ s) = (x.number ≢ n → x.key ≢ key) × IsKeyFreeFor n key s
+
+-- a key that nobody has is free for each driver
+pub nobody_has : (n : ℕ) (key : List ℕ) (s : State) → HasNoKey key s → IsKeyFreeFor n key s
+nobody_has n key [] h = tt
+nobody_has n key (x ∷ s) h = ((λ o. h.0), nobody_has n key s h.1)
+
+-- a key that is free for a driver who isn't in the state is nobody's
+has_nobody : (n : ℕ) (key : List ℕ) (s : State) → HasNot n s → IsKeyFreeFor n key s → HasNoKey key s
+has_nobody n key [] o h = tt
+has_nobody n key (x ∷ s) o h = (h.0 o.0, has_nobody n key s o.1 h.1)
+
+-- a driver who is found has a key that somebody has
+pub found_key : (n : ℕ) (key : List ℕ) (s : State) (d : Driver) → driver_of n s ≡ Some d → HasNoKey key s → d.key ≢ key
+found_key n key [] d e h = cc
+found_key n key (x ∷ s) d e h = go (x.number == n) e (λ w. found_key n key s d w h.1) where
+  go : (b : Bool) → cond b (Some x) (driver_of n s) ≡ Some d → (driver_of n s ≡ Some d → d.key ≢ key) → d.key ≢ key
+  go true f more = let same : x ≡ d = cc in subst (λ (y : Driver). y.key ≢ key) same h.0
+  go false f more = more f
+
+-- a driver's own key is free for them
+own_key : (n : ℕ) (s : State) (d : Driver) → driver_of n s ≡ Some d → AreDistinct s → IsKeyFreeFor n d.key s
+own_key n [] d e h = tt
+own_key n (x ∷ s) d e h = go (x.number == n) refl (λ w. own_key n s d w h.3) where
+  go : (b : Bool) → (x.number == n) ≡ b → (driver_of n s ≡ Some d → IsKeyFreeFor n d.key s) → IsKeyFreeFor n d.key (x ∷ s)
+  go true o more = (
+    (λ other. absurd (other (eq_true x.number n o))),
+    nobody_has n d.key s (subst (λ (y : Driver). HasNoKey y.key s) (found_head n x d s e o) h.1),
+  )
+  go false o more =
+      let tail = found_tail n x d s e o in
+      ((λ other same. found_key n x.key s d tail h.1 (sym same)), more tail)
+
+-- no key is added but the new driver's
+no_key_put : (key : List ℕ) (d : Driver) (s : State) → d.key ≢ key → HasNoKey key s → HasNoKey key (put d s)
+no_key_put key d [] o h = tt
+no_key_put key d (x ∷ s) o h = go (x.number == d.number) (no_key_put key d s o h.1) where
+  go : (b : Bool) → HasNoKey key (put d s) → HasNoKey key (cond b (d ∷ s) (x ∷ put d s))
+  go true more = (o, h.1)
+  go false more = (h.0, more)
 
 -- no new holder is added
 no_holder_put : (holder : List ℕ) (n : ℕ) (d old : Driver) (s : State) → driver_of n s ≡ Some old → d.number ≡ n → d.holder ≡ old.holder
@@ -106,28 +138,30 @@ no_holder_put holder n d old (x ∷ s) e k same h = go (x.number == d.number) re
       ((λ g. h.0 (ap (λ (y : Driver). y.holder) (found_head n x old s e here) ∙ sym same ∙ g)), h.1)
   go false o more = (h.0, more (found_tail n x old s e (subst (λ (j : ℕ). (x.number == j) ≡ false) k o)))
 
--- the new driver has the key and the holder of the old one
-pub record SamePerson (d old : Driver) : Type 0 where
-  pub key : d.key ≡ old.key
-  pub holder : d.holder ≡ old.holder
-
--- drivers stay distinct
-distinct_put : (n : ℕ) (d old : Driver) (s : State) → driver_of n s ≡ Some old → d.number ≡ n → SamePerson d old → AreDistinct s
-    → AreDistinct (put d s)
-distinct_put n d old [] e k same h = tt
-distinct_put n d old (x ∷ s) e k same h = go (x.number == d.number) refl (λ w. distinct_put n d old s w k same h.3) where
-  go : (b : Bool) → (x.number == d.number) ≡ b → (driver_of n s ≡ Some old → AreDistinct (put d s))
-      → AreDistinct (cond b (d ∷ s) (x ∷ put d s))
-  go true o more =
-      let head = found_head n x old s e (subst (λ (j : ℕ). (x.number == j) ≡ true) k o) in (
-        subst (λ (j : ℕ). HasNot j s) (eq_true x.number d.number o) h.0,
-        subst (λ (j : List ℕ). HasNoKey j s) (ap (λ (y : Driver). y.key) head ∙ sym same.key) h.1,
-        subst (λ (j : List ℕ). IsHolderFree j s) (ap (λ (y : Driver). y.holder) head ∙ sym same.holder) h.2,
-        h.3,
-      )
-  go false o more =
-      let tail = found_tail n x old s e (subst (λ (j : ℕ). (x.number == j) ≡ false) k o) in
-      (has_put x.number d s h.0, no_key_put x.key n d old s tail k same.key h.1, no_holder_put x.holder n d old s tail k same.holder h.2, more tail)
+-- drivers stay distinct if nobody else has the new driver's key
+distinct_put : (n : ℕ) (d old : Driver) (s : State) → driver_of n s ≡ Some old → d.number ≡ n → IsKeyFreeFor n d.key s
+    → d.holder ≡ old.holder → AreDistinct s → AreDistinct (put d s)
+distinct_put n d old [] e k free same h = tt
+distinct_put n d old (x ∷ s) e k free same h =
+    go (x.number == d.number) refl (λ w. distinct_put n d old s w k free.1 same h.3) where
+      go : (b : Bool) → (x.number == d.number) ≡ b → (driver_of n s ≡ Some old → AreDistinct (put d s))
+          → AreDistinct (cond b (d ∷ s) (x ∷ put d s))
+      go true o more =
+          let is = eq_true x.number d.number o in
+          let head = found_head n x old s e (subst (λ (j : ℕ). (x.number == j) ≡ true) k o) in (
+            subst (λ (j : ℕ). HasNot j s) is h.0,
+            has_nobody n d.key s (subst (λ (j : ℕ). HasNot j s) (is ∙ k) h.0) free.1,
+            subst (λ (j : List ℕ). IsHolderFree j s) (ap (λ (y : Driver). y.holder) head ∙ sym same) h.2,
+            h.3,
+          )
+      go false o more =
+          let there : (x.number == n) ≡ false = subst (λ (j : ℕ). (x.number == j) ≡ false) k o in
+          let tail = found_tail n x old s e there in (
+            has_put x.number d s h.0,
+            no_key_put x.key d s (λ key. free.0 (eq_false x.number n there) (sym key)) h.1,
+            no_holder_put x.holder n d old s tail k same h.2,
+            more tail,
+          )
 
 -- the tables represent each driver
 each_put : (t u : Tables) (n : ℕ) (d : Driver) (s : State) → d.number ≡ n → AreDistinct s → RowsRepresentEach t s → RowsRepresent u d
@@ -150,17 +184,30 @@ known_put t u n d old s e h f = record {
   other : (j : ℕ) → HasNot j s → j ≢ n
   other j w g = found_not n s old e (subst (λ (m : ℕ). HasNot m s) g w)
 
--- if one driver changes, and no rows but that driver's, the tables represent the new state
-pub put_is : (t u : Tables) (n : ℕ) (d old : Driver) (s : State) → TablesRepresent t s → driver_of n s ≡ Some old → d.number ≡ n → SamePerson d old
-    → u.drivers ≡ map driver_columns (put d s) → RowsRepresent u d → ((j : ℕ) → j ≢ n → SameOfDriver j t u) → AreMarked u
-    → TablesRepresent u (put d s)
-put_is t u n d old s h e k same r own f marked = record {
+-- if one driver changes, and no rows but that driver's, the tables represent the new state, unless another driver has the new key
+pub put_with_key : (t u : Tables) (n : ℕ) (d old : Driver) (s : State) → TablesRepresent t s → driver_of n s ≡ Some old → d.number ≡ n
+    → IsKeyFreeFor n d.key s → d.holder ≡ old.holder → u.drivers ≡ map driver_columns (put d s) → RowsRepresent u d
+    → ((j : ℕ) → j ≢ n → SameOfDriver j t u) → AreMarked u → TablesRepresent u (put d s)
+put_with_key t u n d old s h e k free same r own f marked = record {
   drivers = r;
-  distinct = distinct_put n d old s e k same h.distinct;
+  distinct = distinct_put n d old s e k free same h.distinct;
   each = each_put t u n d s k h.distinct h.each own f;
   known = known_put t u n d old s e h.known f;
   marked = marked;
 }
+
+-- the new driver has the key and the holder of the old one
+pub record SamePerson (d old : Driver) : Type 0 where
+  pub key : d.key ≡ old.key
+  pub holder : d.holder ≡ old.holder
+
+-- likewise if the driver keeps their key
+pub put_is : (t u : Tables) (n : ℕ) (d old : Driver) (s : State) → TablesRepresent t s → driver_of n s ≡ Some old → d.number ≡ n → SamePerson d old
+    → u.drivers ≡ map driver_columns (put d s) → RowsRepresent u d → ((j : ℕ) → j ≢ n → SameOfDriver j t u) → AreMarked u
+    → TablesRepresent u (put d s)
+put_is t u n d old s h e k same r own f marked =
+    put_with_key t u n d old s h e k (subst (λ (key : List ℕ). IsKeyFreeFor n key s) (sym same.key) (own_key n s old e h.distinct))
+    same.holder r own f marked
 
 -- ---- rows of drivers
 

@@ -187,9 +187,10 @@ pub record IsFit (s : StoredSpan) : Type 0 where
   pub minutes : AreMinutes s.start s.past
   pub mark : IsMark s.mark
 
--- a stored entry that can be listed: its numbers are minutes, and its texts are within their limits
+-- a stored entry that can be listed: its numbers are minutes and an activity, and its texts are within their limits
 pub record IsListed (it : ListedEntry) : Type 0 where
   pub minutes : AreMinutes it.start it.past
+  pub mark : it.mark < 4
   pub author : IsName it.author
   pub note : IsNote it.note
 

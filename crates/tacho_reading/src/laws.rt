@@ -1,17 +1,17 @@
 //! Laws about what the archive's tables represent. A law is a function without a body: what it ensures is proved for all values of its
 //! variables.
 
-ghost use Rattle.std.specs.Prelude.{◌≡◌, ◌↔◌, ℕ, List, [], None, Some, Ok, map, filter, Contains};
+ghost use Rattle.std.specs.Prelude.{◌≡◌, ◌≢◌, ◌↔◌, ℕ, List, [], None, Some, Ok, map, filter, Contains};
 ghost use Rattle.sqlite.specs.Tree.{Trees};
 ghost use Rattle.tacho_time.specs.Spans.{Gives, IsCanonicalOf};
 ghost use Rattle.tacho_time.specs.declared.span.Span.{Span};
 ghost use Rattle.tacho_state.specs.Disjoint.{Keeps, near};
 ghost use Rattle.tacho_state.specs.State.{Driver, Entry, State, IsDownloaded, Held, driver_of, driver_with_key, holding, download_from, entry_from};
-ghost use Rattle.tacho_state.specs.Steps.{file_of};
+ghost use Rattle.tacho_state.specs.Steps.{file_of, owner, rekey_step};
 ghost use Rattle.tacho_tables.specs.declared.rows.StoredSpan.{StoredSpan as StoredValue};
 ghost use Rattle.tacho_tables.specs.Rows.{DriverRow, DownloadRow, EntryRow, SpanRow};
 ghost use Rattle.tacho_tables.specs.Tables.{Tables, HasTables, has_number, has_secret, has_holder, is_download, is_entry, is_entry_of};
-ghost use Rattle.tacho_reading.specs.Standing.{TablesRepresent, SameRows, spans_of, driver_columns, entry_row, rows_of_entries, stored_span, IsReadNear};
+ghost use Rattle.tacho_reading.specs.Standing.{AreDistinct, TablesRepresent, SameRows, spans_of, driver_columns, entry_row, rows_of_entries, stored_span, IsReadNear};
 
 /// Stored rows represent lists of rows in any order.
 pub fn any_order()
@@ -80,4 +80,12 @@ pub fn entries_are_found()
         → (e : Entry) × (entry_from 1 number d.entries ≡ Some e) × (row ≡ entry_row n number e) }
     ensures all { (t : Tables) (s : State) (n : ℕ) (d : Driver) → TablesRepresent t s → driver_of n s ≡ Some d
         → filter (is_entry_of n) t.entries ≡ rows_of_entries n 1 d.entries }
+{}
+
+/// A key that was set is its driver's. The one before it is nobody's, unless it is the same.
+pub fn a_changed_key()
+    ensures theirs { (s : State) (n : ℕ) (key : List ℕ) → (rekey_step n key s).answer ≡ Ok tt
+        → owner key (rekey_step n key s).after ≡ Ok (Some n) }
+    ensures before { (s : State) (n : ℕ) (key : List ℕ) (d : Driver) → AreDistinct s → driver_of n s ≡ Some d → key ≢ d.key
+        → (rekey_step n key s).answer ≡ Ok tt → owner d.key (rekey_step n key s).after ≡ Ok None }
 {}

@@ -129,6 +129,9 @@ fn listed_entry(row: StoredEntry) -> Option<Entry>
 {
     let start = minute_of(row.start)?;
     let past = minute_of(row.past)?;
+    if row.mark >= 4 {
+        return None;
+    }
     let activity = activity_of(row.mark);
     let Ok(line) = EntryLine::new(start, past, activity, row.author, row.note) else {
         return None;
