@@ -3,6 +3,7 @@ mod ImportTablesLemmas
 mod WithdrawalTablesLemmas
 mod RegistrationLemmas
 mod BaseLemmas
+mod RekeyLemmas
 mod NewsLemmas
 mod OthersLemmas
 mod JoinLemmas

@@ -1,19 +1,20 @@
--- The tables after a registration, and after a change of a base.
-use Rattle.std.proofs.Common.{◌≡◌, ◌≢◌, ℕ, ◌==◌, Bool, true, false, cond, List, [], ◌∷◌, ◌++◌, Some, None, map, refl, sym, ap, ◌∙◌, subst}
+-- The tables after a registration, and after a change of a base or of a key.
+use Rattle.std.proofs.Common.{◌≡◌, ◌≢◌, ℕ, ◌==◌, not, Bool, true, false, cond, List, [], ◌∷◌, ◌++◌, Some, None, map, refl, sym, ap, ◌∙◌, subst}
 use Rattle.std.specs.Str.{bytes_eq}
 use Rattle.std.proofs.lemmas.List.{map-append}
 use Rattle.tacho_time.specs.declared.span.Span.{Span}
 use Rattle.tacho_time.specs.Spans.{Gives}
 use Rattle.tacho_state.specs.Disjoint.{Keeps}
-use Rattle.tacho_state.specs.State.{Download, Entry, Driver, State, driver_of, driver_with_key, holding, put, with_base}
+use Rattle.tacho_state.specs.State.{Download, Entry, Driver, State, driver_of, driver_with_key, holding, put, with_base, with_key}
+use Rattle.tacho_state.specs.Steps.{is_another}
 use Rattle.tacho_tables.specs.Rows.{DriverRow}
 use Rattle.tacho_tables.specs.Tables as tables
 use Rattle.tacho_tables.specs.Tables.{Tables}
 use Rattle.tacho_reading.specs.Standing.{driver_columns, RowsRepresent, RowsRepresentEach, HasNot, HasNoKey, IsHolderFree, AreDistinct, AreKnown, TablesRepresent}
-use Rattle.tacho_reading.proofs.RowLemmas.{eq_self, eq_not, eq_false}
-use Rattle.tacho_reading.proofs.DriverRowLemmas.{bytes_false}
-use Rattle.tacho_reading.proofs.StateLemmas.{SameOfDriver, found_number, found_of, put_is, rows_put}
-use Rattle.tacho_store.specs.After.{with_driver, with_rebased}
+use Rattle.tacho_reading.proofs.RowLemmas.{eq_self, eq_not, eq_true, eq_false}
+use Rattle.tacho_reading.proofs.DriverRowLemmas.{bytes_true, bytes_false}
+use Rattle.tacho_reading.proofs.StateLemmas.{SameOfDriver, IsKeyFreeFor, nobody_has, found_number, found_of, put_is, put_with_key, rows_put}
+use Rattle.tacho_store.specs.After.{with_driver, with_rebased, with_rekeyed}
 
 -- ---- a driver at the end
 
@@ -146,4 +147,48 @@ rebased_is t s n base d h k =
     (λ x o. based_other n base x o))
     (record { downloads = own.downloads; read = own.read; entries = own.entries; full = own.full; card_spans = own.card_spans; held = own.held })
     (λ j o. based_same t n base j)
+    (record { card_spans = h.marked.card_spans; held = h.marked.held })
+
+-- ---- another key
+
+-- the driver's own row gets the key
+keyed_own : (n : ℕ) (key : List ℕ) (r : DriverRow) → r.driver ≡ n → tables.with_row_key n key r ≡ record r { secret = key }
+keyed_own n key r e = ap (λ b. cond b (record r { secret = key }) r) (subst (λ (k : ℕ). (k == n) ≡ true) (sym e) (eq_self n))
+
+-- no other row changes
+keyed_other : (n : ℕ) (key : List ℕ) (r : DriverRow) → r.driver ≢ n → tables.with_row_key n key r ≡ r
+keyed_other n key r d = ap (λ b. cond b (record r { secret = key }) r) (eq_not r.driver n d)
+
+-- no row changes except the driver's own
+keyed_same : (t : Tables) (n : ℕ) (key : List ℕ) (j : ℕ) → SameOfDriver j t (with_rekeyed n key t)
+keyed_same t n key j = record { downloads = refl; entries = refl; card_spans = refl; held = refl }
+
+-- if the key isn't another driver's, it is free for the driver
+key_free : (n : ℕ) (key : List ℕ) (s : State) → AreDistinct s → is_another n (driver_with_key key s) ≡ false → IsKeyFreeFor n key s
+key_free n key [] h e = tt
+key_free n key (x ∷ s) h e = go (bytes_eq x.key key) refl e (key_free n key s h.3) where
+  own : (b : Bool) → (x.number == n) ≡ b → not b ≡ false → x.number ≡ n
+  own true o f = eq_true x.number n o
+  own false o f = cc
+
+  go : (b : Bool) → bytes_eq x.key key ≡ b → is_another n (cond b (Some x) (driver_with_key key s)) ≡ false
+      → (is_another n (driver_with_key key s) ≡ false → IsKeyFreeFor n key s) → IsKeyFreeFor n key (x ∷ s)
+  go true o f more = (
+    (λ other. absurd (other (own (x.number == n) refl f))),
+    nobody_has n key s (subst (λ (k : List ℕ). HasNoKey k s) (bytes_true x.key key o) h.1),
+  )
+  go false o f more = ((λ _. bytes_false x.key key o), more f)
+
+-- the tables with another key in the driver's row represent the state with that key
+pub rekeyed_is : (t : Tables) (s : State) (n : ℕ) (key : List ℕ) (d : Driver) → TablesRepresent t s → driver_of n s ≡ Some d
+    → is_another n (driver_with_key key s) ≡ false → TablesRepresent (with_rekeyed n key t) (put (with_key key d) s)
+rekeyed_is t s n key d h k free =
+    let same = found_number n s d k in
+    let own = found_of t n s d k h.each in
+    put_with_key t (with_rekeyed n key t) n (with_key key d) d s h k same (key_free n key s h.distinct free) refl
+    (ap (λ (x : List DriverRow). map (tables.with_row_key n key) x) h.drivers
+    ∙ rows_put (tables.with_row_key n key) n (with_key key d) d s k same h.distinct (keyed_own n key (driver_columns d) same)
+    (λ x o. keyed_other n key x o))
+    (record { downloads = own.downloads; read = own.read; entries = own.entries; full = own.full; card_spans = own.card_spans; held = own.held })
+    (λ j o. keyed_same t n key j)
     (record { card_spans = h.marked.card_spans; held = h.marked.held })

@@ -6,4 +6,5 @@ pub mod Old
 pub mod Opening
 pub mod After
 pub mod Registering
+pub mod Rekeying
 pub mod Listing

@@ -10,7 +10,7 @@ use Rattle.sqlite_catalog.specs.Listing.{IsSound}
 use Rattle.tacho_state.specs.declared.fault.StoreFault.{StoreFault}
 use Rattle.tacho_state.specs.declared.fault.StoreFault.TheVariants.{OldSchema}
 use Rattle.tacho_state.specs.State.{State}
-use Rattle.tacho_tables.specs.Schema.{old_schema, meta_rows, has_tables, archive_names, old_names}
+use Rattle.tacho_tables.specs.Schema.{old_schema, meta_rows, has_tables, has_archive_tables, old_names}
 use Rattle.tacho_tables.specs.Making.{IsVersioned, TellsVersion}
 use Rattle.tacho_tables.specs.Tables.{IsVersion}
 use Rattle.tacho_tables.specs.Calls.{Stays}
@@ -100,7 +100,7 @@ module _ (old new : Sqlite) where
     pub record IsChecked : Type 0 where
       pub alone : IsFoundAlone
       pub live : HasCleanDisk new → OnOk result (IsTrue new.is_open)
-      pub names : OnOk result (IsTrue (has_tables archive_names old.now.schema))
+      pub names : OnOk result (IsTrue (has_archive_tables old.now.schema))
       pub missing : HasCleanDisk new → IsBlank old → IsErr result
       pub stated : HasCleanDisk new → IsVersioned old.now → OnOk result (old.now.trees meta_rows ≢ [])
       pub version : HasCleanDisk new → IsVersioned old.now → (version : ℕ) → IsVersion version old.now.trees → OnOk result (version ≡ 2)
@@ -155,7 +155,7 @@ module _ {K : Type 0} (stands : K → State → Type 0) (is_live : K → Type 0)
     pub left : (states : List State) → LeavesOneOf old states → leaves archive states
     pub rests : (s : State) → Represents old.now.trees s → leaves archive (s ∷ [])
     pub found : ¬ IsBlank old
-    pub names : IsTrue (has_tables archive_names old.now.schema)
+    pub names : IsTrue (has_archive_tables old.now.schema)
     pub none : (s : OldState) → ¬ StoodFor old.now.trees s
     pub stated : AreVersioned old.now.trees → old.now.trees meta_rows ≢ []
     pub version : AreVersioned old.now.trees → (version : ℕ) → IsVersion version old.now.trees → version ≡ 2
@@ -170,4 +170,4 @@ module _ {K : Type 0} (stands : K → State → Type 0) (is_live : K → Type 0)
     pub left : (s : State) → Represents old.now.trees s → (states : List State) → LeavesOneOf old states → leaves archive states
     pub rests : (s : State) → Represents old.now.trees s → leaves archive (s ∷ [])
     pub found : ¬ IsBlank old
-    pub names : IsTrue (has_tables archive_names old.now.schema) ⊎ IsTrue (has_tables old_names old.now.schema)
+    pub names : IsTrue (has_archive_tables old.now.schema) ⊎ IsTrue (has_tables old_names old.now.schema)

@@ -11,6 +11,7 @@ use crate::entering::enter;
 use crate::files::files;
 use crate::import::import;
 use crate::registration::register;
+use crate::rekey::rekey;
 use crate::withdrawal::withdraw;
 use sqlite::{Alter, Connection, MemStore, Transaction};
 use std::alloc::Global;
@@ -277,6 +278,10 @@ impl<S: Alter> Keeper for Archive<S> {
 
     fn rebase(&mut self, driver: u32, base: Day) -> Result<(), StoreFault> {
         rebase(&mut self.conn, driver, base)
+    }
+
+    fn rekey(&mut self, driver: u32, key: &str) -> Result<(), StoreFault> {
+        rekey(&mut self.conn, driver, key)
     }
 
     fn who(&mut self, key: &[u8]) -> Result<Option<u32>, StoreFault> {

@@ -1,7 +1,7 @@
 //! Laws about what the archive's tables represent after a command. A law is a function without a body: what it ensures is proved, and holds
 //! for everything that it names.
 
-ghost use Rattle.std.specs.Prelude.{◌≡◌, ◌⊎◌, ℕ, ◌+◌, ◌==◌, ◌++◌, List, [], ◌∷◌, None, Some, Ok, filter, length, map};
+ghost use Rattle.std.specs.Prelude.{◌≡◌, ◌≢◌, ◌⊎◌, ℕ, ◌+◌, ◌==◌, ◌++◌, List, [], ◌∷◌, false, None, Some, Ok, filter, length, map};
 ghost use Rattle.std.specs.List.{AllByRecursion};
 ghost use Rattle.sqlite.specs.Held.{state};
 ghost use Rattle.tacho_time.specs.Spans.{Gives, IsCanonicalOf};
@@ -10,9 +10,9 @@ ghost use Rattle.tacho_line.specs.Line.{AreGains, IsWithin};
 ghost use Rattle.tacho_card.specs.declared.file.Part.{Part as PartValue};
 ghost use Rattle.tacho_state.specs.Content.{FileTells, part_number};
 ghost use Rattle.tacho_state.specs.Disjoint.{AreInRange, near, outside};
-ghost use Rattle.tacho_state.specs.State.{Driver, Entry, State, AreFull, driver_of, driver_with_key, holding, entry_from, entered_spans, put, with_base, with_download, with_batch, with_marked};
+ghost use Rattle.tacho_state.specs.State.{Driver, Entry, State, AreFull, driver_of, driver_with_key, holding, entry_from, entered_spans, put, with_base, with_key, with_download, with_batch, with_marked};
 ghost use Rattle.tacho_state.specs.Runs.{Call, IsRun, AreAnswered, state_after};
-ghost use Rattle.tacho_state.specs.Steps.{Content};
+ghost use Rattle.tacho_state.specs.Steps.{Content, is_another, owner, rekey_step};
 ghost use Rattle.tacho_tables.specs.declared.rows.StoredSpan.{StoredSpan as StoredValue};
 ghost use Rattle.tacho_tables.specs.Tables.{Tables, OldTables, carry_over, no_rows, with_withdrawn};
 ghost use Rattle.tacho_tables.specs.Rows.{OldEntryRow};
@@ -20,10 +20,11 @@ ghost use Rattle.tacho_reading.specs.Kept.{IsOfOne, LeavesOneOf};
 ghost use Rattle.tacho_reading.specs.Standing.{Represents, TablesRepresent, spans_of, driver_columns, stored_span, IsReadNear, IsKeptNear};
 ghost use Rattle.tacho_store.specs.Old.{OldDriver, OldState, old_entry_rows, with_office};
 ghost use Rattle.tacho_store.specs.Opening.{IsAdopted};
-ghost use Rattle.tacho_store.specs.After.{with_driver, with_rebased, with_imported, with_entered, with_renewed};
+ghost use Rattle.tacho_store.specs.After.{with_driver, with_rebased, with_rekeyed, with_imported, with_entered, with_renewed};
 
 use crate::archive::Archive;
 use sqlite::{Alter, Connection};
+use tacho_reading::laws;
 use tacho_state::Keeper;
 
 /// After a crash the archive is found again: an archive that is adopted from the trees that the crash left has one of the states that the
@@ -85,6 +86,23 @@ pub fn rebased_tables_stand()
     ensures { (t : Tables) (s : State) (n base : ℕ) (d : Driver) → TablesRepresent t s → driver_of n s ≡ Some d
         → TablesRepresent (with_rebased n base t) (put (with_base base d) s) }
 {}
+
+/// A change of a driver's key to one that no other driver has, on the tables.
+pub fn rekeyed_tables_stand()
+    ensures { (t : Tables) (s : State) (n : ℕ) (key : List ℕ) (d : Driver) → TablesRepresent t s → driver_of n s ≡ Some d
+        → is_another n (driver_with_key key s) ≡ false
+        → TablesRepresent (with_rekeyed n key t) (put (with_key key d) s) }
+{}
+
+/// A key that was set is its driver's. The one before it is nobody's then, unless it is the same.
+pub fn a_changed_key()
+    ensures theirs { (s : State) (n : ℕ) (key : List ℕ) → (rekey_step n key s).answer ≡ Ok tt
+        → owner key (rekey_step n key s).after ≡ Ok (Some n) }
+    ensures before { (t : Tables) (s : State) (n : ℕ) (key : List ℕ) (d : Driver) → TablesRepresent t s → driver_of n s ≡ Some d
+        → key ≢ d.key → (rekey_step n key s).answer ≡ Ok tt → owner d.key (rekey_step n key s).after ≡ Ok None }
+{
+    laws::a_changed_key();
+}
 
 /// An import, on the tables: it adds the gains against card spans near the file's spans, and the gains against held rows near them.
 pub fn imported_tables_stand()

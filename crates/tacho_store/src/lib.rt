@@ -10,6 +10,7 @@ mod import;
 pub mod laws;
 mod news;
 mod registration;
+mod rekey;
 mod withdrawal;
 
 pub use archive::{Archive, open_memory};
