@@ -1,11 +1,11 @@
 -- The drivers of a shelf after one of them has changed.
-use Rattle.std.proofs.Common.{◌≡◌, ℕ, zero, suc, ◌==◌, Bool, true, false, cond, [], ◌∷◌, ◌++◌, length, get_or, slice_get, slice_set, Some, None, Result, Ok, Err, refl, sym, ap, ◌∙◌}
+use Rattle.std.proofs.Common.{◌≡◌, ℕ, zero, suc, ◌==◌, Bool, true, false, cond, List, [], ◌∷◌, ◌++◌, length, get_or, slice_get, slice_set, Some, None, Result, Ok, Err, refl, sym, ap, ◌∙◌}
 use Rattle.std.proofs.lemmas.Bool.{eqb-true, eq-eqb}
 use Rattle.std.proofs.lemmas.Option.{slice_get_read}
 use Rattle.tacho_state.specs.declared.fault.StoreFault.{StoreFault}
 use Rattle.tacho_state.specs.declared.fault.StoreFault.TheVariants.{NotMonday}
-use Rattle.tacho_state.specs.State.{Driver, State, driver_of, put, with_base}
-use Rattle.tacho_state.specs.Steps.{Turn, is_monday, own_turn, turn_of, rebase_own, rebase_step}
+use Rattle.tacho_state.specs.State.{Driver, State, driver_of, driver_with_key, put, with_base, with_key}
+use Rattle.tacho_state.specs.Steps.{Turn, is_monday, own_turn, turn_of, rebase_own, rebase_step, is_another, rekey_step}
 use Rattle.tacho_state.specs.Acts.{Answers, state_left_by}
 use Rattle.tacho_shelf.specs.Shelf.{AreNumbered, IsIndexOf, Turns}
 
@@ -111,3 +111,18 @@ rebased_set n base i s x d h place e f monday =
     let put_there = put_at s i d x h at (ap (λ (y : Driver). y.number) f) in
     turns_as (λ u. tt) s (slice_set s i d) (Ok tt) (rebase_step n base) _ (rebased_at n base s x (sym place.1 ∙ at) monday) refl (put_there
     ∙ ap (λ (y : Driver). put y s) f)
+
+-- the driver with this number gets a key that nobody else has
+rekeyed_at : (n : ℕ) (key : List ℕ) (s : State) (x : Driver) → driver_of n s ≡ Some x
+    → is_another n (driver_with_key key s) ≡ false → rekey_step n key s ≡ record { answer = Ok tt; after = put (with_key key x) s }
+rekeyed_at n key s x e free = rw (free, e) refl
+
+-- the driver at the place that a search found gets such a key
+pub rekeyed_set : (n : ℕ) (key : List ℕ) (i : ℕ) (s : State) (x d : Driver) → AreNumbered s → IsIndexOf s (driver_of n s) (Some i)
+    → x ≡ get_or s i x → d ≡ with_key key x → is_another n (driver_with_key key s) ≡ false
+    → Turns (λ (u : Unit {0}). tt) s (slice_set s i d) (Ok tt) (rekey_step n key)
+rekeyed_set n key i s x d h place e f free =
+    let at : slice_get s i ≡ Some x = slice_get_read s (length s) i x refl place.0 e in
+    let put_there = put_at s i d x h at (ap (λ (y : Driver). y.number) f) in
+    turns_as (λ u. tt) s (slice_set s i d) (Ok tt) (rekey_step n key) _ (rekeyed_at n key s x (sym place.1 ∙ at) free) refl
+    (put_there ∙ ap (λ (y : Driver). put y s) f)

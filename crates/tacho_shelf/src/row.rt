@@ -420,6 +420,13 @@ impl Row {
     {
         self.base = base;
     }
+
+    /// Sets the driver's key.
+    pub(crate) fn set_key(&mut self, key: String)
+        ensures { self.new ≡ record self.old { key = string_bytes key } }
+    {
+        self.key = key;
+    }
 }
 
 /// Returns the first of `count` new numbers after `given` numbers were given out: S14.

@@ -2,10 +2,10 @@ ghost use Rattle.std.specs.Prelude.{◌≡◌, ◌⊎◌, ℕ, ◌++◌, [], ◌
 ghost use Rattle.tacho_card.specs.declared.fault.CardFault.{CardFault};
 ghost use Rattle.tacho_state.specs.declared.imported.Imported.TheVariants.{Repeated};
 ghost use Rattle.tacho_line.specs.Line.{mark_at};
-ghost use Rattle.tacho_state.specs.State.{driver_of, holding};
+ghost use Rattle.tacho_state.specs.State.{driver_of, driver_with_key, holding};
 ghost use Rattle.tacho_state.specs.Content.{FileTells, part_number};
 ghost use Rattle.tacho_state.specs.Batch.{IsBatch, batch_of};
-ghost use Rattle.tacho_state.specs.Steps.{Content, register_step, import_step, enter_step, withdraw_step, rebase_step, refusal_turn, owner, name_reading, line_reading, entries_reading, file_reading, report_reading, known_driver};
+ghost use Rattle.tacho_state.specs.Steps.{Content, register_step, import_step, enter_step, withdraw_step, rebase_step, rekey_step, is_another, refusal_turn, owner, name_reading, line_reading, entries_reading, file_reading, report_reading, known_driver};
 ghost use Rattle.tacho_state.specs.Reported.{AreStretchesOf, IsHeldWithin, IsDriverReport};
 ghost use Rattle.tacho_stretches.specs.Stretches.{judged_of};
 ghost use Rattle.tacho_state.specs.Files.{files_reading, told_file};
@@ -146,6 +146,33 @@ impl Shelf {
         }
         self.drivers[place].set_base(base);
         Ok(())
+    }
+
+    /// Sets a driver's key: S2, S4.
+    fn set_key(&mut self, driver: u32, key: &str) -> Result<(), StoreFault>
+        ensures { Turns (λ _. tt) self.old self.new result (rekey_step driver key.now) }
+    {
+        if self.is_key_of_another(driver, key.as_bytes()) {
+            return Err(StoreFault::KeyTaken);
+        }
+        let Some(place) = place_of(&self.drivers, driver) else {
+            return Err(StoreFault::UnknownDriver);
+        };
+        let Ok(key) = String::from_str(self.alloc, key) else {
+            return Err(StoreFault::Memory);
+        };
+        self.drivers[place].set_key(key);
+        Ok(())
+    }
+
+    /// True if a driver with another number has this key.
+    fn is_key_of_another(&self, driver: u32, key: &[u8]) -> bool
+        ensures { result ≡ is_another driver (driver_with_key key.now self.now) }
+    {
+        match self.number_with_key(key) {
+            Some(number) => number != driver,
+            None => false,
+        }
     }
 
     /// Returns the number of the driver with this key, if there is one.
@@ -403,6 +430,10 @@ impl Keeper for Shelf {
 
     fn rebase(&mut self, driver: u32, base: Day) -> Result<(), StoreFault> {
         self.set_base(driver, base)
+    }
+
+    fn rekey(&mut self, driver: u32, key: &str) -> Result<(), StoreFault> {
+        self.set_key(driver, key)
     }
 
     fn who(&mut self, key: &[u8]) -> Result<Option<u32>, StoreFault> {
