@@ -5,6 +5,8 @@ pub mod Lines
 pub mod Text
 pub mod Number
 pub mod Driver
+pub mod Key
+pub mod Cut
 pub mod Reports
 pub mod Done
 pub mod Amounts

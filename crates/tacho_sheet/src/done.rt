@@ -86,6 +86,16 @@ pub fn base_line(day: Day) -> DoneLine
     line
 }
 
+/// The line after a key was set: `key 17`.
+pub fn key_line(driver: u32) -> DoneLine
+    ensures { result.items ≡ number_line (codes "key ") driver }
+{
+    let mut line = begun(b"key ");
+    put_number(&mut line, driver.into());
+    put(&mut line, b"\n");
+    line
+}
+
 /// A line that begins with these bytes.
 fn begun(front: &[u8]) -> DoneLine
     requires { length front.now ≤ 16 }

@@ -35,7 +35,7 @@ pub fn read_holder(text: &[u8]) -> Option<[u8; 15]>
 }
 
 /// Reads a key.
-fn read_key(text: &[u8]) -> Option<&str>
+pub(crate) fn read_key(text: &[u8]) -> Option<&str>
     ensures { MatchOption result (¬ (IsKeyText text.now)) (λ key. (key.now ≡ text.now) × IsKey key.now) }
 {
     let Ok(key) = str::from_utf8(text) else {

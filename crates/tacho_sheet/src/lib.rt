@@ -9,6 +9,7 @@ mod entries;
 mod evidence;
 mod fault;
 mod form;
+mod key;
 pub mod laws;
 mod lines;
 mod months;
@@ -22,11 +23,14 @@ mod why;
 mod words;
 
 pub use chart::month_chart;
-pub use done::{DoneLine, base_line, entered_line, imported_line, registered_line, withdrawn_line};
+pub use done::{
+    DoneLine, base_line, entered_line, imported_line, key_line, registered_line, withdrawn_line,
+};
 pub use driver::{read_driver, read_holder};
 pub use entries::read_entries;
 pub use fault::{Fault, LeftOut, SheetFault};
 pub use form::form_text;
+pub use key::read_key_line;
 pub use lines::{FaultLine, fault_line, push_bytes};
 pub use months::{incident_head, overview_head, push_incidents, push_overview};
 pub use number::read_number;
