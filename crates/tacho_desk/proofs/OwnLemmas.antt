@@ -17,7 +17,7 @@ use Rattle.tacho_state.specs.Acts.{caller_number}
 use Rattle.tacho_state.specs.Registration.{Registration}
 use Rattle.tacho_state.specs.State.{Driver, State, driver_of, given_spans, held_spans, put}
 use Rattle.tacho_state.specs.Files.{files_reading}
-use Rattle.tacho_state.specs.Steps.{Content, Own, Turn, file_reading, enter_step, import_by_driver, import_step, kept_by, entries_reading, most_records, own_turn, rebase_step, register_step, turn_of, reading_of, withdraw_step}
+use Rattle.tacho_state.specs.Steps.{Content, Own, Turn, file_reading, enter_step, import_by_driver, import_step, kept_by, entries_reading, most_records, own_turn, rebase_step, register_step, turn_of, reading_of, rekey_step, withdraw_step}
 use Rattle.tacho_state.specs.declared.caller.Caller.TheVariants as caller
 use Rattle.tacho_state.specs.declared.fault.StoreFault.{StoreFault}
 use Rattle.tacho_sheet.specs.Entries.{Lines}
@@ -29,7 +29,7 @@ use Rattle.tacho_sheet.specs.Why.{IsMonthWhy}
 use Rattle.tacho_sheet.specs.declared.fault.SheetFault.{SheetFault}
 use Rattle.tacho_desk.specs.Doing.{Doing, IsText, IsTextOf, Lists, Shows, Steps, in_words}
 use Rattle.tacho_desk.specs.Own.{OneAnswer, OthersStay, RefusalsStay, SameAnswers}
-use Rattle.tacho_desk.specs.Tasks.{EntersRead, Imports, IsFormOf, OfReport, OfStretches, RegistersRead, ShowsFile, ShowsMonth, ShowsMonthOfAll, ShowsReading, entered_told, imported_told}
+use Rattle.tacho_desk.specs.Tasks.{EntersRead, Imports, IsFormOf, OfReport, OfStretches, RegistersRead, RekeysRead, ShowsFile, ShowsMonth, ShowsMonthOfAll, ShowsReading, entered_told, imported_told}
 use Rattle.tacho_desk.specs.Told.{Added, Answer, File, Line, Long, Told}
 use Rattle.tacho_desk.specs.declared.fault.Fault.{Fault}
 use Rattle.tacho_desk.specs.declared.task.Task.TheVariants as task
@@ -39,7 +39,7 @@ use Rattle.tacho_desk.specs.declared.want.MonthReading.{MonthReading}
 use Rattle.tacho_desk.specs.declared.want.MonthReading.TheVariants as month
 use Rattle.tacho_desk.specs.declared.want.Reading.{Reading}
 use Rattle.tacho_desk.specs.declared.want.Reading.TheVariants as reading
-use Rattle.tacho_desk.proofs.StepLemmas.{Keeps, entered_keeps, imported_keeps, rebased_keeps, registered_keeps, withdrawn_keeps}
+use Rattle.tacho_desk.proofs.StepLemmas.{Keeps, entered_keeps, imported_keeps, rebased_keeps, registered_keeps, rekeyed_keeps, withdrawn_keeps}
 
 -- ---- refusals
 
@@ -62,6 +62,11 @@ enters_stay : (n : ℕ) (s : State) (read : Lines) (f : Fault) (after : State) �
 enters_stay n s (Err g) f after h = h.1
 enters_stay n s (Ok lines) f after h =
     steps_stay (λ first. entered_told first (length lines)) s (enter_step n (batch_of lines) s) f after (entered_keeps n (batch_of lines) s) h
+
+-- so does a key that is refused
+rekeys_stay : (n : ℕ) (s : State) (read : Result (List ℕ) SheetFault) (f : Fault) (after : State) → RekeysRead n s read (Err f) after → after ≡ s
+rekeys_stay n s (Err g) f after h = h.1
+rekeys_stay n s (Ok key) f after h = steps_stay _ s (rekey_step n key s) f after (rekeyed_keeps n key s) h
 
 -- a reading changes nothing
 reading_stays : (text : Reading) (n : ℕ) (s : State) (answer : Answer) (after : State) → ShowsReading text n s answer after → after ≡ s
@@ -95,6 +100,7 @@ refusals (task.Import who p) input s f after h =
 refusals (task.Enter n) input s f after h = enters_stay n s h.0 f after h.2
 refusals (task.Withdraw n number) input s f after h = steps_stay _ s (withdraw_step n number s) f after (withdrawn_keeps n number s) h
 refusals (task.Base n day) input s f after h = steps_stay _ s (rebase_step n day s) f after (rebased_keeps n day s) h
+refusals (task.Key n) input s f after h = rekeys_stay n s h.0 f after h.2
 refusals (task.Reading n text) input s f after h = reading_stays text n s (Err f) after h
 refusals (task.MonthReading n month text) input s f after h = month_stays text month n s (Err f) after h
 refusals (task.File n number) input s f after h = h.1
@@ -262,6 +268,7 @@ same_answers n task.Register theirs input s other e answer after h = absurd thei
 same_answers n (task.Enter m) theirs input s other e answer after h = absurd theirs
 same_answers n (task.Withdraw m number) theirs input s other e answer after h = absurd theirs
 same_answers n (task.Base m day) theirs input s other e answer after h = absurd theirs
+same_answers n (task.Key m) theirs input s other e answer after h = absurd theirs
 same_answers n task.Drivers theirs input s other e answer after h = absurd theirs
 same_answers n (task.MonthOfAll month text) theirs input s other e answer after h = absurd theirs
 
@@ -278,6 +285,7 @@ others_stay n task.Register theirs input s answer after h m other = absurd their
 others_stay n (task.Enter k) theirs input s answer after h m other = absurd theirs
 others_stay n (task.Withdraw k number) theirs input s answer after h m other = absurd theirs
 others_stay n (task.Base k day) theirs input s answer after h m other = absurd theirs
+others_stay n (task.Key k) theirs input s answer after h m other = absurd theirs
 others_stay n task.Drivers theirs input s answer after h m other = absurd theirs
 others_stay n (task.MonthOfAll month text) theirs input s answer after h m other = absurd theirs
 
@@ -403,5 +411,6 @@ module _ (one_content : (p : Part) (bytes : List ℕ) (a b : Result Content Card
   one_answer n (task.Enter m) theirs input s a b after left h k = absurd theirs
   one_answer n (task.Withdraw m number) theirs input s a b after left h k = absurd theirs
   one_answer n (task.Base m day) theirs input s a b after left h k = absurd theirs
+  one_answer n (task.Key m) theirs input s a b after left h k = absurd theirs
   one_answer n task.Drivers theirs input s a b after left h k = absurd theirs
   one_answer n (task.MonthOfAll month text) theirs input s a b after left h k = absurd theirs

@@ -15,12 +15,13 @@ use Rattle.tacho_state.specs.declared.fault.StoreFault.TheVariants as store
 use Rattle.tacho_state.specs.declared.imported.Imported.{Imported}
 use Rattle.tacho_sheet.specs.Driver.{IsDriverRead}
 use Rattle.tacho_sheet.specs.Entries.{IsRead}
+use Rattle.tacho_sheet.specs.Key.{IsKeyLine, IsKeyRead}
 use Rattle.tacho_sheet.specs.Rows.{IsReaderFault}
 use Rattle.tacho_sheet.specs.declared.fault.SheetFault.{SheetFault}
 use Rattle.tacho_sheet.specs.declared.fault.SheetFault.TheVariants as sheet
 use Rattle.tacho_desk.specs.Doing.{AsksOnly, Done, IsOfArchive, IsUnread, Serves, Steps, CrashMayLeave, in_words}
 use Rattle.tacho_desk.specs.Fault.{IsFailure, sheet_fault, fault_of_store}
-use Rattle.tacho_desk.specs.Tasks.{Enters, EntersRead, Imports, IsFaulty, IsSound, OrCsv, Registers, RegistersRead, imported_told}
+use Rattle.tacho_desk.specs.Tasks.{Enters, EntersRead, Imports, IsFaulty, IsSound, OrCsv, Registers, RegistersRead, Rekeys, RekeysRead, imported_told}
 use Rattle.tacho_desk.specs.Told.{Answer, Told}
 use Rattle.tacho_desk.specs.declared.task.Task.TheVariants as task
 use Rattle.tacho_desk.proofs.MeantLemmas.{IsSameAsItself, nothing, served_as}
@@ -164,6 +165,22 @@ module _ {K : Type 0} (stands : K → State → Type 0) (is_clean is_live : K �
       served_as stands is_clean is_live leaves is_same old new true answer (λ s. RegistersRead s (Ok r)) (Registers input)
       (λ s answer after does. (Ok r, inl is, does)) d
 
+  -- ---- a key
+
+  -- a text without a key
+  pub unread_key : IsSameAsItself is_same → (keeper : K) (n : ℕ) (input : List ℕ) (f : SheetFault) → IsKeyRead input (Err f)
+      → Serves stands is_clean is_live leaves is_same keeper keeper true (Err (sheet_fault f)) (Rekeys n input)
+  unread_key same_self keeper n input f is =
+      nothing stands is_clean is_live leaves is_same same_self keeper true (sheet_fault f) (Rekeys n input) (λ s. inl (Err f, is, (refl, refl)))
+
+  -- a key that was read and set
+  pub key_was_read : (old new : K) (answer : Answer) (n : ℕ) (input key : List ℕ) → IsKeyLine input key
+      → Serves stands is_clean is_live leaves is_same old new true answer (λ s. RekeysRead n s (Ok key))
+      → Serves stands is_clean is_live leaves is_same old new true answer (Rekeys n input)
+  key_was_read old new answer n input key is d =
+      served_as stands is_clean is_live leaves is_same old new true answer (λ s. RekeysRead n s (Ok key)) (Rekeys n input)
+      (λ s answer after does. (Ok key, is, does)) d
+
 -- the text of hours was refused, and the archive was not accessed
 pub unasked_lines : {K : Type 0} (keeper : K) (n : ℕ) (input : List ℕ) (f : SheetFault) → IsReaderFault f ⊎ IsRead input (Err f)
     → AsksOnly keeper keeper (IsSound (task.Enter n) input) (IsFaulty (task.Enter n) input) (Err (sheet_fault f))
@@ -173,6 +190,11 @@ unasked_lines keeper n input f h = inr (refl, unread (IsRead input) f (read_faul
 pub unasked_driver : {K : Type 0} (keeper : K) (input : List ℕ) (f : SheetFault) → IsReaderFault f ⊎ IsDriverRead input (Err f)
     → AsksOnly keeper keeper (IsSound task.Register input) (IsFaulty task.Register input) (Err (sheet_fault f))
 unasked_driver keeper input f h = inr (refl, unread (IsDriverRead input) f (read_fault (IsDriverRead input) f h))
+
+-- likewise for a text without a key
+pub unasked_key : {K : Type 0} (keeper : K) (n : ℕ) (input : List ℕ) (f : SheetFault) → IsKeyRead input (Err f)
+    → AsksOnly keeper keeper (IsSound (task.Key n) input) (IsFaulty (task.Key n) input) (Err (sheet_fault f))
+unasked_key keeper n input f is = inr (refl, inl (f, is, refl))
 
 -- a step of the archive
 module _ {K : Type 0} (stands : K → State → Type 0) (is_clean is_live : K → Type 0) (leaves : K → List State → Type 0)

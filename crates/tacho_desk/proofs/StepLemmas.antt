@@ -3,7 +3,7 @@ use Rattle.std.proofs.Common.{◌≡◌, ◌+◌, ◌++◌, ℕ, Bool, true, fal
 use Rattle.tacho_card.specs.declared.fault.CardFault.{CardFault}
 use Rattle.tacho_state.specs.Least.{least_conflict}
 use Rattle.tacho_state.specs.State.{Driver, Entry, State, driver_of, entered_spans, entry_from, held_spans, holding, driver_with_key}
-use Rattle.tacho_state.specs.Steps.{Content, Own, Turn, enter_step, entered_by, enter_own, import_step, import_by_driver, import_own, is_monday, most_records, own_turn, rebase_step, rebase_own, refusal_turn, register_step, turn_of, withdraw_step, withdrawn_by, withdraw_own}
+use Rattle.tacho_state.specs.Steps.{Content, Own, Turn, enter_step, entered_by, enter_own, import_step, import_by_driver, import_own, is_monday, most_records, own_turn, rebase_step, rebase_own, rekey_step, rekey_own, is_another, refusal_turn, register_step, turn_of, withdraw_step, withdrawn_by, withdraw_own}
 use Rattle.tacho_state.specs.declared.fault.StoreFault.{StoreFault}
 use Rattle.tacho_state.specs.declared.fault.StoreFault.TheVariants.{Card, DriverTaken, KeyTaken, HolderTaken, NotMonday}
 
@@ -54,6 +54,11 @@ withdrawn_keeps n number s = own_keeps (withdraw_own number) s (driver_of n s)
 -- a change of a base
 pub rebased_keeps : (n base : ℕ) (s : State) → Keeps s (rebase_step n base s)
 rebased_keeps n base s = own_keeps (rebase_own base) s (driver_of n s)
+
+-- a change of a key
+pub rekeyed_keeps : (n : ℕ) (key : List ℕ) (s : State) → Keeps s (rekey_step n key s)
+rekeyed_keeps n key s =
+    either_keeps s (is_another n (driver_with_key key s)) _ _ (refused_keeps s KeyTaken) (own_keeps (rekey_own key) s (driver_of n s))
 
 -- ---- only an import reports the fault of a file
 
@@ -113,3 +118,8 @@ withdrawn_tells_no_file n number s = none_own (withdraw_own number) s (driver_of
 pub rebased_tells_no_file : (n base : ℕ) (s : State) → TellsNoFile (rebase_step n base s).answer
 rebased_tells_no_file n base s = none_own (rebase_own base) s (driver_of n s)
     (λ d. none_either (is_monday base) _ _ (λ f e. cc) (λ f e. cc))
+
+-- a change of a key
+pub rekeyed_tells_no_file : (n : ℕ) (key : List ℕ) (s : State) → TellsNoFile (rekey_step n key s).answer
+rekeyed_tells_no_file n key s =
+    none_turned (is_another n (driver_with_key key s)) _ _ (λ f e. cc) (none_own (rekey_own key) s (driver_of n s) (λ d f e. cc))

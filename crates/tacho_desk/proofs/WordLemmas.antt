@@ -55,6 +55,7 @@ task_once want.Withdraw c driver word a b x y =
     (λ n. number_once word (λ k w. w ≡ Ok (task.Withdraw n k)) (λ k a b i j. i ∙ sym j)) a b x y
 task_once want.Base c driver word a b x y =
     driver_once c driver (λ n w. w ≡ by_time (day_at word) (λ day. Ok (task.Base n day))) (λ n a b i j. i ∙ sym j) a b x y
+task_once want.Key c driver word a b x y = driver_once c driver (λ n w. w ≡ Ok (task.Key n)) (λ n a b i j. i ∙ sym j) a b x y
 task_once (want.Reading text) c driver word a b x y =
     driver_once c driver (λ n w. w ≡ Ok (task.Reading n text)) (λ n a b i j. i ∙ sym j) a b x y
 task_once (want.MonthReading text) c driver word a b x y =

@@ -14,7 +14,7 @@ use Rattle.tacho_state.specs.Content.{FileTells, part_number}
 use Rattle.tacho_state.specs.Files.{files_reading}
 use Rattle.tacho_state.specs.Registration.{Registration}
 use Rattle.tacho_state.specs.State.{Driver, State, driver_of, held_spans}
-use Rattle.tacho_state.specs.Steps.{Content, register_step, import_step, enter_step, withdraw_step, rebase_step, entries_reading, file_reading}
+use Rattle.tacho_state.specs.Steps.{Content, register_step, import_step, enter_step, withdraw_step, rebase_step, rekey_step, entries_reading, file_reading}
 use Rattle.tacho_state.specs.Summaries.{AreSummaries, Summary}
 use Rattle.tacho_state.specs.declared.caller.Caller.{Caller}
 use Rattle.tacho_state.specs.declared.entry.EntryLine.{EntryLine}
@@ -27,6 +27,7 @@ use Rattle.tacho_sheet.specs.Done.{base_line, entered_text, imported_text, numbe
 use Rattle.tacho_sheet.specs.Driver.{IsDriverRead}
 use Rattle.tacho_sheet.specs.Entries.{IsRead, Lines}
 use Rattle.tacho_sheet.specs.Form.{IsForm}
+use Rattle.tacho_sheet.specs.Key.{IsKeyLine, IsKeyRead}
 use Rattle.tacho_sheet.specs.Months.{overview_head, IsOverviewRow, incident_head, AreIncidentRows}
 use Rattle.tacho_sheet.specs.Stretches.{stretch_text, debt_text}
 use Rattle.tacho_sheet.specs.Chart.{IsMonthChart}
@@ -90,6 +91,14 @@ Withdraws n number s = Steps (λ _. Line (number_line (codes "withdrawn ") numbe
 
 abbrev pub Rebases : ℕ → ℕ → State → Doing
 Rebases n day s = Steps (λ _. Line (base_line day)) (rebase_step n day s)
+
+-- the fault E9; or the step that sets the key
+abbrev pub RekeysRead : ℕ → State → Result (List ℕ) SheetFault → Doing
+RekeysRead n s (Err f) = Refuses (sheet_fault f) s
+RekeysRead n s (Ok key) = Steps (λ _. Line (number_line (codes "key ") n)) (rekey_step n key s)
+
+abbrev pub Rekeys : ℕ → List ℕ → State → Doing
+Rekeys n input s answer after = (read : Result (List ℕ) SheetFault) × IsKeyRead input read × RekeysRead n s read answer after
 
 -- ---- readings
 
@@ -162,6 +171,7 @@ want_of (task.Import caller part) = want.Import
 want_of (task.Enter n) = want.Enter
 want_of (task.Withdraw n number) = want.Withdraw
 want_of (task.Base n day) = want.Base
+want_of (task.Key n) = want.Key
 want_of (task.Reading n text) = want.Reading text
 want_of (task.MonthReading n m text) = want.MonthReading text
 want_of (task.File n number) = want.File
@@ -175,6 +185,7 @@ Does (task.Import caller part) input s = Imports caller part input s
 Does (task.Enter n) input s = Enters n input s
 Does (task.Withdraw n number) input s = Withdraws n number s
 Does (task.Base n day) input s = Rebases n day s
+Does (task.Key n) input s = Rekeys n input s
 Does (task.Reading n text) input s = ShowsReading text n s
 Does (task.MonthReading n m text) input s = ShowsMonth text m n s
 Does (task.File n number) input s = ShowsFile n number s
@@ -183,11 +194,13 @@ Does (task.MonthOfAll m text) input s = ShowsMonthOfAll text m s
 
 -- ---- inputs
 
--- the input is valid: a text of CSV that can be read, a card file without a fault, or any input if the task doesn't read it
+-- the input is valid: a text of CSV that can be read, a card file without a fault, a line with a key, or any input if the task doesn't read
+-- it
 abbrev pub IsSound : Task → List ℕ → Type 0
 IsSound task.Register input = (r : Registration) × IsDriverRead input (Ok r)
 IsSound (task.Import caller part) input = (content : Content) × FileTells part input (Ok content)
 IsSound (task.Enter n) input = (lines : List EntryLine) × IsRead input (Ok lines)
+IsSound (task.Key n) input = (key : List ℕ) × IsKeyLine input key
 IsSound t input = Unit {0}
 
 -- the input has this fault
@@ -195,4 +208,5 @@ abbrev pub IsFaulty : Task → List ℕ → Fault → Type 0
 IsFaulty task.Register input f = (e : SheetFault) × OrCsv (IsDriverRead input) (Err e) × (f ≡ sheet_fault e)
 IsFaulty (task.Import caller part) input f = (e : CardFault) × FileTells part input (Err e) × (f ≡ fault_of_store (store.Card e))
 IsFaulty (task.Enter n) input f = (e : SheetFault) × OrCsv (IsRead input) (Err e) × (f ≡ sheet_fault e)
+IsFaulty (task.Key n) input f = (e : SheetFault) × IsKeyRead input (Err e) × (f ≡ sheet_fault e)
 IsFaulty t input f = ⊥

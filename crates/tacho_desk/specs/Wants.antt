@@ -1,13 +1,14 @@
 -- Trusted: The kinds of tasks at an archive: which have an input, which change the archive, and which are a driver's own.
 use Rattle.std.specs.Prelude.{Bool, true, false}
 use Rattle.tacho_desk.specs.declared.want.Want.{Want}
-use Rattle.tacho_desk.specs.declared.want.Want.TheVariants.{Base, Enter, File, Import, MonthReading, Reading, Register, Withdraw}
+use Rattle.tacho_desk.specs.declared.want.Want.TheVariants.{Base, Enter, File, Import, Key, MonthReading, Reading, Register, Withdraw}
 
--- the task has an input: a text of CSV or a card file
+-- the task has an input: a text of CSV, a card file or a key
 abbrev pub takes_input : Want → Bool
 takes_input Register = true
 takes_input Import = true
 takes_input Enter = true
+takes_input Key = true
 takes_input want = false
 
 -- the task is a command, which changes the archive
@@ -17,6 +18,7 @@ is_command Import = true
 is_command Enter = true
 is_command Withdraw = true
 is_command Base = true
+is_command Key = true
 is_command want = false
 
 -- a driver's own tasks are the import of their card, and readings about them

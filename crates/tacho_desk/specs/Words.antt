@@ -72,6 +72,7 @@ IsTask want.Enter c driver word wanted = ByDriver c driver (λ n w. w ≡ Ok (ta
 IsTask want.Withdraw c driver word wanted =
     ByDriver c driver (λ n. ByNumber most_number word (λ k w. w ≡ Ok (task.Withdraw n k))) wanted
 IsTask want.Base c driver word wanted = ByDriver c driver (λ n w. w ≡ by_time (day_at word) (λ day. Ok (task.Base n day))) wanted
+IsTask want.Key c driver word wanted = ByDriver c driver (λ n w. w ≡ Ok (task.Key n)) wanted
 IsTask (want.Reading text) c driver word wanted = ByDriver c driver (λ n w. w ≡ Ok (task.Reading n text)) wanted
 IsTask (want.MonthReading text) c driver word wanted =
     ByDriver c driver (λ n w. w ≡ by_time (month_at word) (λ month. Ok (task.MonthReading n month text))) wanted

@@ -2,8 +2,9 @@
 
 ghost use Rattle.std.specs.Prelude.{◌≡◌, Ok, true};
 ghost use Rattle.tacho_state.specs.Batch.{IsBatch};
+ghost use Rattle.tacho_state.specs.Limits.{IsKey};
 ghost use Rattle.tacho_desk.specs.Doing.{AsksOnly, IsOfArchive, Serves};
-ghost use Rattle.tacho_desk.specs.Tasks.{Enters, EntersRead, Imports, IsFaulty, IsSound, Rebases, Registers, RegistersRead, Withdraws, entered_told, imported_told};
+ghost use Rattle.tacho_desk.specs.Tasks.{Enters, EntersRead, Imports, IsFaulty, IsSound, Rebases, Registers, RegistersRead, Rekeys, RekeysRead, Withdraws, entered_told, imported_told};
 ghost use Rattle.tacho_desk.specs.declared.task.Task.TheVariants as task;
 ghost use Rattle.tacho_desk.specs.Told.{answer_of, told_text};
 
@@ -13,8 +14,8 @@ use crate::text::Text;
 use std::alloc::Global;
 use tacho_card::Part;
 use tacho_sheet::{
-    base_line, entered_line, imported_line, read_driver, read_entries, registered_line,
-    withdrawn_line,
+    base_line, entered_line, imported_line, key_line, read_driver, read_entries, read_key_line,
+    registered_line, withdrawn_line,
 };
 use tacho_state::{Caller, Driver, Entered, EntryLine, Imported, Keeper};
 
@@ -133,4 +134,24 @@ pub(crate) fn rebase<K: Keeper>(keeper: &mut K, driver: u32, base: BaseDay) -> R
     let day = base.day();
     keeper.rebase(driver, day)?;
     Ok(Text::Line(base_line(day)))
+}
+
+/// Sets a driver's key, given as a line.
+pub(crate) fn rekey<K: Keeper>(keeper: &mut K, driver: u32, input: &[u8]) -> Result<Text, Fault>
+    ensures serves { Serves K.stands K.is_clean K.is_live K.leaves K.is_same keeper.old keeper.new true (answer_of result) (Rekeys driver input.now) }
+    ensures asks { AsksOnly keeper.old keeper.new (IsSound (task.Key driver) input.now) (IsFaulty (task.Key driver) input.now) (answer_of result) }
+{
+    let key = read_key_line(input)?;
+    set_key(keeper, driver, key)
+}
+
+/// Sets a driver's key.
+fn set_key<K: Keeper>(keeper: &mut K, driver: u32, key: &str) -> Result<Text, Fault>
+    requires { IsKey key.now }
+    ensures serves { Serves K.stands K.is_clean K.is_live K.leaves K.is_same keeper.old keeper.new true (answer_of result)
+        (λ s. RekeysRead driver s (Ok key.now)) }
+    ensures archive { IsOfArchive (answer_of result) }
+{
+    keeper.rekey(driver, key)?;
+    Ok(Text::Line(key_line(driver)))
 }

@@ -37,6 +37,10 @@ pub enum Task {
         driver: u32,
         day: BaseDay,
     },
+    /// Sets a driver's key, given as a line.
+    Key {
+        driver: u32,
+    },
     /// Reads a text about a driver.
     Reading {
         driver: u32,
@@ -81,6 +85,7 @@ pub fn carry_out<K: Keeper>(
         Task::Enter { driver } => commands::enter(alloc, keeper, driver, input),
         Task::Withdraw { driver, number } => commands::withdraw(alloc, keeper, driver, number),
         Task::Base { driver, day } => commands::rebase(keeper, driver, day),
+        Task::Key { driver } => commands::rekey(keeper, driver, input),
         Task::Reading { driver, reading } => readings::show(alloc, keeper, driver, reading),
         Task::MonthReading {
             driver,

@@ -11,6 +11,8 @@ pub enum Want {
     Withdraw,
     /// Set a driver's base.
     Base,
+    /// Set a driver's key, given as a line.
+    Key,
     /// Read a text about a driver.
     Reading(Reading),
     /// Read a text about a driver's month.
@@ -70,10 +72,13 @@ impl Want {
     ghost use Rattle.std.specs.Prelude.{◌≡◌};
     ghost use Rattle.tacho_desk.specs.Wants.{takes_input as has_input};
 
-    /// Whether the task has an input: a text of CSV or a card file.
+    /// Whether the task has an input: a text of CSV, a card file or a key.
     pub fn takes_input(self) -> bool
         ensures { result ≡ has_input self }
     {
-        matches!(self, Want::Register | Want::Import | Want::Enter)
+        matches!(
+            self,
+            Want::Register | Want::Import | Want::Enter | Want::Key
+        )
     }
 }

@@ -93,6 +93,10 @@ pub fn task_of(want: Want, caller: Caller, driver: &[u8], word: &[u8]) -> Result
             }
             Err(fault) => Err(fault),
         },
+        Want::Key => match driver_of(caller, driver) {
+            Ok(driver) => Ok(Task::Key { driver }),
+            Err(fault) => Err(fault),
+        },
         Want::Reading(reading) => match driver_of(caller, driver) {
             Ok(driver) => Ok(Task::Reading { driver, reading }),
             Err(fault) => Err(fault),

@@ -146,6 +146,7 @@ task_is_own want.Register n driver word t own is = cc
 task_is_own want.Enter n driver word t own is = cc
 task_is_own want.Withdraw n driver word t own is = cc
 task_is_own want.Base n driver word t own is = cc
+task_is_own want.Key n driver word t own is = cc
 task_is_own want.Drivers n driver word t own is = cc
 task_is_own (want.MonthOfAll text) n driver word t own is = cc
 
