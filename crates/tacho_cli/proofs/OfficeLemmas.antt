@@ -50,6 +50,7 @@ none_faulty : (t : Task) (input : List ℕ) (f : Fault) → takes_input (want_of
 none_faulty task.Register input f e h = absurd (cc)
 none_faulty (task.Import caller part) input f e h = absurd (cc)
 none_faulty (task.Enter n) input f e h = absurd (cc)
+none_faulty (task.Key n) input f e h = absurd (cc)
 none_faulty (task.Withdraw n number) input f e h = h
 none_faulty (task.Base n day) input f e h = h
 none_faulty (task.Reading n text) input f e h = h
@@ -91,6 +92,7 @@ words_without want.Withdraw c driver word is =
 words_without want.Base c driver word is =
     driver_without c driver (λ n w. w ≡ by_time (day_at word) (λ day. Ok (task.Base n day)))
     (λ n. time_without (λ day. task.Base n day) (day_at word)) is
+words_without want.Key c driver word is = driver_without c driver (λ n w. w ≡ Ok (task.Key n)) (λ n e. cc) is
 words_without (want.Reading text) c driver word is = driver_without c driver (λ n w. w ≡ Ok (task.Reading n text)) (λ n e. cc) is
 words_without (want.MonthReading text) c driver word is =
     driver_without c driver (λ n w. w ≡ by_time (month_at word) (λ month. Ok (task.MonthReading n month text)))
@@ -101,7 +103,7 @@ words_without want.File c driver word is =
 words_without want.Drivers c driver word is = cc
 words_without (want.MonthOfAll text) c driver word is = time_without (λ month. task.MonthOfAll month text) (month_at word) is
 
--- nor is a text of CSV
+-- nor is a text of CSV or a key
 csv_without : (e : SheetFault) → fault.Device ≡ sheet_fault e → ⊥
 csv_without sheet.Head h = cc
 csv_without (sheet.Fields row) h = cc
@@ -120,6 +122,7 @@ input_without : (t : Task) (input : List ℕ) → IsFaulty t input fault.Device 
 input_without task.Register input h = csv_without h.0 h.2
 input_without (task.Import caller part) input h = let e = h.2 in cc
 input_without (task.Enter n) input h = csv_without h.0 h.2
+input_without (task.Key n) input h = csv_without h.0 h.2
 input_without (task.Withdraw n number) input h = h
 input_without (task.Base n day) input h = h
 input_without (task.Reading n text) input h = h

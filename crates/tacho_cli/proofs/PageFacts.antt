@@ -53,6 +53,9 @@ withdraw = refl
 base : act_named (codes "base") subcommands ≡ Some (act.AtDesk want.Base)
 base = refl
 
+key : act_named (codes "key") subcommands ≡ Some (act.AtDesk want.Key)
+key = refl
+
 spans : act_named (codes "spans") subcommands ≡ Some (act.AtDesk (want.MonthReading month.Spans))
 spans = refl
 
@@ -104,6 +107,12 @@ form = refl
 serve : act_named (codes "serve") subcommands ≡ Some act.Serve
 serve = refl
 
+listen : act_named (codes "listen") subcommands ≡ Some act.Listen
+listen = refl
+
+version : act_named (codes "version") subcommands ≡ Some act.Version
+version = refl
+
 -- another name is no subcommand
 other_name : act_named (codes "holders") subcommands ≡ None
 other_name = refl
@@ -115,11 +124,12 @@ given row = row.0 ++ flat_map (λ word. codes " " ++ word) row.1
 all_given : map given subcommands
     ≡ codes "dump" ∷ codes "holder" ∷ codes "card part" ∷ codes "init archive" ∷ codes "migrate archive" ∷ codes "register archive"
     ∷ codes "import archive part" ∷ codes "enter archive driver" ∷ codes "withdraw archive driver number" ∷ codes "base archive driver date"
+    ∷ codes "key archive driver"
     ∷ codes "spans archive driver month" ∷ codes "gaps archive driver month" ∷ codes "sheet archive driver month" ∷ codes "chart archive driver month"
     ∷ codes "breaches archive driver" ∷ codes "why archive driver month" ∷ codes "owed archive driver" ∷ codes "entries archive driver"
     ∷ codes "file archive driver number" ∷ codes "files archive driver" ∷ codes "drivers archive" ∷ codes "stretches archive driver" ∷ codes "debts archive driver"
     ∷ codes "overview archive month" ∷ codes "incidents archive month" ∷ codes "form archive driver"
-    ∷ codes "serve archive key port count" ∷ []
+    ∷ codes "serve archive key port count" ∷ codes "listen archive port count" ∷ codes "version" ∷ []
 all_given = refl
 
 -- an optional argument

@@ -9,11 +9,10 @@ use Rattle.clap.proofs.OnLiterals.{clap_on_literals}
 use Rattle.clap.specs.declared.error.kind.ErrorKind.{ErrorKind}
 use Rattle.clap.specs.declared.error.kind.ErrorKind.TheVariants.{OutOfMemory}
 use Rattle.tacho_cli.specs.declared.act.Act.{Act}
-use Rattle.tacho_cli.specs.declared.act.Act.TheVariants as act
 use Rattle.tacho_cli.specs.declared.job.Job.{Job}
 use Rattle.tacho_cli.specs.declared.words.Usage.{Usage}
 use Rattle.tacho_cli.specs.declared.words.Usage.TheVariants as usage
-use Rattle.tacho_cli.specs.Words.{act_named, tacho_app, subcommands, with_table, with_words, IsActUsage, IsJob, IsJobOf, IsRefusal, IsUsage}
+use Rattle.tacho_cli.specs.Words.{act_named, tacho_app, subcommands, with_table, with_words, has_port, IsActUsage, IsJob, IsJobOf, IsPortUsage, IsRefusal, IsUsage}
 
 pub tacho_is_simple : is_simple tacho_app ≡ true
 unfolding clap_on_literals tacho_app with_table with_words
@@ -56,22 +55,17 @@ job_met sub name rows a (Err u) is named h = tt
 -- the fault of the subcommand that was found
 act_usage : (taken : Bool) (sub : Option (Text × List Row)) (name : Text) (rows : List Row) (a : Act) (u : Usage) → sub ≡ Some (name, rows)
     → act_named name subcommands ≡ Some a → IsActUsage a rows u → IsUsage taken sub u
-act_usage taken sub name rows act.Serve usage.Numbers is named h = (name, rows, is, named, h)
-act_usage taken sub name rows act.Dump usage.Numbers is named h = absurd h
-act_usage taken sub name rows act.Holder usage.Numbers is named h = absurd h
-act_usage taken sub name rows act.Card usage.Numbers is named h = absurd h
-act_usage taken sub name rows act.Init usage.Numbers is named h = absurd h
-act_usage taken sub name rows act.Migrate usage.Numbers is named h = absurd h
-act_usage taken sub name rows (act.AtDesk w) usage.Numbers is named h = absurd h
+act_usage taken sub name rows a usage.Numbers is named h = (name, rows, a, is, named, h.0, h.1)
 act_usage taken sub name rows a usage.Parser is named h = tt
 act_usage taken sub name rows a usage.Memory is named h = tt
-act_usage taken sub name rows act.Serve (usage.Words text) is named h = absurd h
-act_usage taken sub name rows act.Dump (usage.Words text) is named h = absurd h
-act_usage taken sub name rows act.Holder (usage.Words text) is named h = absurd h
-act_usage taken sub name rows act.Card (usage.Words text) is named h = absurd h
-act_usage taken sub name rows act.Init (usage.Words text) is named h = absurd h
-act_usage taken sub name rows act.Migrate (usage.Words text) is named h = absurd h
-act_usage taken sub name rows (act.AtDesk w) (usage.Words text) is named h = absurd h
+act_usage taken sub name rows a (usage.Words text) is named h = absurd h
+
+-- why there is no port and count is why a subcommand with both has no job
+pub port_usage : (a : Act) (rows : List Row) (u : Usage) → has_port a ≡ true → IsPortUsage rows u → IsActUsage a rows u
+port_usage a rows usage.Numbers is h = (is, h)
+port_usage a rows usage.Parser is h = tt
+port_usage a rows usage.Memory is h = absurd h
+port_usage a rows (usage.Words text) is h = absurd h
 
 pub usage_met : (taken : Bool) (sub : Option (Text × List Row)) (name : Text) (rows : List Row) (a : Act) (result : Result Job Usage)
     → sub ≡ Some (name, rows) → act_named name subcommands ≡ Some a → IfErr result (IsActUsage a rows) → IfErr result (IsUsage taken sub)

@@ -5,3 +5,5 @@ pub mod Holder
 pub mod Card
 pub mod Words
 pub mod Office
+pub mod Listen
+pub mod Version

@@ -1,4 +1,4 @@
--- Trusted in part: What a job at an archive does: its answer to an input, and the state of the archive after it.
+-- Trusted: What a job at an archive does: its answer to an input, and the state of the archive after it.
 use Rattle.std.specs.Prelude.{◌≡◌, ℕ, ◌<◌, ◌≤◌, ◌⊎◌, Bool, true, false, List, [], Option, Ok, Err, IfSome, length}
 use Rattle.tacho_state.specs.State.{State}
 use Rattle.tacho_state.specs.declared.caller.Caller.TheVariants as caller

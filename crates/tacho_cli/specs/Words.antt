@@ -53,6 +53,7 @@ subcommands =
     ∷ (codes "enter", codes "archive" ∷ codes "driver" ∷ [], act.AtDesk want.Enter)
     ∷ (codes "withdraw", codes "archive" ∷ codes "driver" ∷ codes "number" ∷ [], act.AtDesk want.Withdraw)
     ∷ (codes "base", codes "archive" ∷ codes "driver" ∷ codes "date" ∷ [], act.AtDesk want.Base)
+    ∷ (codes "key", codes "archive" ∷ codes "driver" ∷ [], act.AtDesk want.Key)
     ∷ (codes "spans", codes "archive" ∷ codes "driver" ∷ codes "month" ∷ [], act.AtDesk (want.MonthReading month.Spans))
     ∷ (codes "gaps", codes "archive" ∷ codes "driver" ∷ codes "month" ∷ [], act.AtDesk (want.MonthReading month.Gaps))
     ∷ (codes "sheet", codes "archive" ∷ codes "driver" ∷ codes "month" ∷ [], act.AtDesk (want.MonthReading month.Sheet))
@@ -70,6 +71,8 @@ subcommands =
     ∷ (codes "incidents", codes "archive" ∷ codes "month" ∷ [], act.AtDesk (want.MonthOfAll all.Incidents))
     ∷ (codes "form", codes "archive" ∷ codes "driver" ∷ [], act.AtDesk (want.Reading reading.Form))
     ∷ (codes "serve", codes "archive" ∷ codes "key" ∷ codes "port" ∷ codes "count" ∷ [], act.Serve)
+    ∷ (codes "listen", codes "archive" ∷ codes "port" ∷ codes "count" ∷ [], act.Listen)
+    ∷ (codes "version", [], act.Version)
     ∷ []
 
 -- `tacho` with its subcommands, one of which is required
@@ -83,12 +86,13 @@ abbrev pub act_named : Text → List Subcommand → Option Act
 act_named name [] = None
 act_named name (row ∷ table) = if bytes_eq row.0 name then Some row.2 else act_named name table
 
--- the job has an input: a text of CSV or a card file
+-- the job has an input: a text of CSV, a card file or a key
 abbrev pub has_input : Job → Bool
 has_input job.Dump = true
 has_input job.Holder = true
 has_input (job.Card part) = true
 has_input (job.AtDesk j) = takes_input j.want
+has_input (job.Listen archive port count) = true
 has_input other = false
 
 -- the argument with this name is this text
@@ -141,6 +145,9 @@ IsJobOf (act.AtDesk w) rows (job.AtDesk j) =
 IsJobOf act.Serve rows (job.Serve archive key port count) =
     IsWord rows (codes "archive") archive.now × IsWord rows (codes "key") key.now
     × IsNumbered rows (codes "port") 65535 port × IsNumbered rows (codes "count") 1000000 count
+IsJobOf act.Listen rows (job.Listen archive port count) =
+    IsWord rows (codes "archive") archive.now × IsNumbered rows (codes "port") 65535 port × IsNumbered rows (codes "count") 1000000 count
+IsJobOf act.Version rows j = j ≡ job.Version
 IsJobOf a rows j = ⊥
 
 -- the job of the subcommand that the arguments name
@@ -162,6 +169,8 @@ archive_of (job.Init archive) = Some archive.now
 archive_of (job.Migrate archive) = Some archive.now
 archive_of (job.AtDesk j) = Some j.archive.now
 archive_of (job.Serve archive key port count) = Some archive.now
+archive_of (job.Listen archive port count) = Some archive.now
+archive_of job.Version = None
 
 -- ---- usage
 
@@ -179,16 +188,29 @@ HasNoNumbered rows =
     (text : Text)
     × ((IsWord rows (codes "port") text × HasNoNumber 65535 text) ⊎ (IsWord rows (codes "count") text × HasNoNumber 1000000 text))
 
--- only `serve` reports bad numbers
+-- why there is no port and count: one of them is no such number, or the parser gave no answer
+abbrev pub IsPortUsage : List Row → Usage → Type 0
+IsPortUsage rows usage.Numbers = HasNoNumbered rows
+IsPortUsage rows usage.Parser = Unit {0}
+IsPortUsage rows u = ⊥
+
+-- the subcommand has a port and a count
+abbrev pub has_port : Act → Bool
+has_port act.Serve = true
+has_port act.Listen = true
+has_port a = false
+
+-- only such a subcommand reports bad numbers
 abbrev pub IsActUsage : Act → List Row → Usage → Type 0
-IsActUsage act.Serve rows usage.Numbers = HasNoNumbered rows
+IsActUsage a rows usage.Numbers = (has_port a ≡ true) × HasNoNumbered rows
 IsActUsage a rows usage.Parser = Unit {0}
 IsActUsage a rows u = ⊥
 
--- usage is shown only if the command line doesn't accept the arguments, or if the port or the count of `serve` is no such number
+-- usage is shown only if the command line doesn't accept the arguments, or if the port or the count is no such number
 abbrev pub IsUsage : Bool → Option (Text × List Row) → Usage → Type 0
 IsUsage taken sub (usage.Words text) = taken ≡ false
 IsUsage taken sub usage.Numbers =
-    (name : Text) × (rows : List Row) × (sub ≡ Some (name, rows)) × (act_named name subcommands ≡ Some act.Serve) × HasNoNumbered rows
+    (name : Text) × (rows : List Row) × (a : Act) × (sub ≡ Some (name, rows)) × (act_named name subcommands ≡ Some a) × (has_port a ≡ true)
+    × HasNoNumbered rows
 IsUsage taken sub usage.Parser = Unit {0}
 IsUsage taken sub usage.Memory = Unit {0}

@@ -18,8 +18,12 @@ pub(crate) enum Act {
     Migrate,
     /// Does a task at an archive.
     AtDesk(Want),
-    /// Answers requests.
+    /// Answers requests, with the office's key as an argument.
     Serve,
+    /// Answers requests, with the office's key from the input.
+    Listen,
+    /// Prints the version.
+    Version,
 }
 
 /// True if the command line names the driver.
@@ -41,6 +45,6 @@ pub(crate) fn word_of(want: Want) -> Option<&'static str>
         Want::Withdraw | Want::File => Some("number"),
         Want::Base => Some("date"),
         Want::MonthReading(_) | Want::MonthOfAll(_) => Some("month"),
-        Want::Register | Want::Enter | Want::Reading(_) | Want::Drivers => None,
+        Want::Register | Want::Enter | Want::Key | Want::Reading(_) | Want::Drivers => None,
     }
 }

@@ -40,6 +40,14 @@ pub enum Job<'a> {
         port: u16,
         count: u32,
     },
+    /// Answers `count` connections on a port of 127.0.0.1, with the office's key from standard input and those of drivers.
+    Listen {
+        archive: &'a str,
+        port: u16,
+        count: u32,
+    },
+    /// Prints the version of the program, of the archives that it makes, and of the kit that has proved it.
+    Version,
 }
 
 impl<'a> Job<'a> {
@@ -58,11 +66,12 @@ impl<'a> Job<'a> {
         ensures { option_map (λ path. path.now) result ≡ archive_of self.entry }
     {
         match self {
-            Job::Dump | Job::Holder | Job::Card { .. } => None,
+            Job::Dump | Job::Holder | Job::Card { .. } | Job::Version => None,
             Job::Init { archive }
             | Job::Migrate { archive }
             | Job::AtDesk(DeskJob { archive, .. })
-            | Job::Serve { archive, .. } => Some(archive),
+            | Job::Serve { archive, .. }
+            | Job::Listen { archive, .. } => Some(archive),
         }
     }
 }

@@ -97,7 +97,7 @@ fn job_answer<K: Keeper, R: Source>(
 }
 
 /// Reads the input of a job.
-fn input_of<R: Source>(alloc: Global, reader: &mut R) -> Result<Vec<u8>, Fault>
+pub(crate) fn input_of<R: Source>(alloc: Global, reader: &mut R) -> Result<Vec<u8>, Fault>
     ensures { MatchResult result (λ input. HasRead (R.unread reader.old) (R.has_failed reader.new) input.items)
         (λ fault. HasNotRead (R.unread reader.old) (R.has_failed reader.new) fault) }
 {

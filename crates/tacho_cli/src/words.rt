@@ -2,7 +2,7 @@ ghost use Rattle.std.specs.Prelude.{◌≡◌, [], IfOk, IfErr, IfSome, codes, f
 ghost use Rattle.clap.specs.Words.{app_of, fault_of, found_of, kind_of, new_app, rows_of, rule_of, subcommand_of, takes};
 ghost use Rattle.clap.specs.declared.builder.command.Command.TheViews.{out-Command as fields_of};
 ghost use Rattle.tacho_cli.specs.Words.{act_named, needs_subcommand, tacho_app, subcommands, with_table, with_words, word_id, word_rule};
-ghost use Rattle.tacho_cli.specs.Words.{IsActUsage, IsDriverText, IsJob, IsJobOf, IsRefusal, IsUsage, IsWord, IsWordText};
+ghost use Rattle.tacho_cli.specs.Words.{IsActUsage, IsDriverText, IsJob, IsJobOf, IsNumbered, IsPortUsage, IsRefusal, IsUsage, IsWord, IsWordText};
 
 use crate::act::{Act, names_driver, word_of};
 use crate::job::{DeskJob, Job};
@@ -40,7 +40,7 @@ impl From<AllocError> for Usage {
 type Row = (&'static str, &'static str, &'static [&'static str], Act);
 
 /// The subcommands.
-static TABLE: [Row; 27] = [
+static TABLE: [Row; 30] = [
     (
         "dump",
         "Prints the spans of the value of an EF Driver_Activity_Data (0504), a line each: tacho dump < FILE",
@@ -100,6 +100,12 @@ static TABLE: [Row; 27] = [
         "Sets the Monday from which a driver is examined: DATE is YYYY-MM-DD",
         &["archive", "driver", "date"],
         Act::AtDesk(Want::Base),
+    ),
+    (
+        "key",
+        "Sets the key of a driver: tacho key ARCHIVE DRIVER < FILE, of which the only line is the key",
+        &["archive", "driver"],
+        Act::AtDesk(Want::Key),
     ),
     (
         "spans",
@@ -202,6 +208,18 @@ static TABLE: [Row; 27] = [
         "Answers COUNT connections on PORT of 127.0.0.1, a request each: the office's by its KEY, drivers' by their own",
         &["archive", "key", "port", "count"],
         Act::Serve,
+    ),
+    (
+        "listen",
+        "Does as serve, with the office's key from its input: tacho listen ARCHIVE PORT COUNT < FILE, of which the only line is the key",
+        &["archive", "port", "count"],
+        Act::Listen,
+    ),
+    (
+        "version",
+        "Prints the version of this program, the schema of the archives that it makes, and the kit that has proved it",
+        &[],
+        Act::Version,
     ),
 ];
 
@@ -350,6 +368,8 @@ fn job_of<'a>(act: Act, words: &ArgMatches<'a>) -> Result<Job<'a>, Usage>
         },
         Act::AtDesk(want) => desk_of(want, words),
         Act::Serve => serve_of(words),
+        Act::Listen => listen_of(words),
+        Act::Version => Ok(Job::Version),
     }
 }
 
@@ -373,6 +393,7 @@ fn desk_of<'a>(want: Want, words: &ArgMatches<'a>) -> Result<Job<'a>, Usage>
 }
 
 /// Makes the job of `serve` from its arguments. Fails with `Usage::Numbers` if the port or the count isn't a valid number.
+#[tactic(auto, using(crate::proofs::WordsLemmas::port_usage))]
 fn serve_of<'a>(words: &ArgMatches<'a>) -> Result<Job<'a>, Usage>
     ensures job { IfOk result (IsJobOf Act.Serve (rows_of (found_of words.now))) }
     ensures usage { IfErr result (IsActUsage Act.Serve (rows_of (found_of words.now))) }
@@ -380,6 +401,44 @@ fn serve_of<'a>(words: &ArgMatches<'a>) -> Result<Job<'a>, Usage>
     let (Some(archive), Some(key)) = (text_of(words, "archive"), text_of(words, "key")) else {
         return Err(Usage::Parser);
     };
+    let (port, count) = match port_and_count(words) {
+        Ok(numbers) => numbers,
+        Err(usage) => return Err(usage),
+    };
+    Ok(Job::Serve {
+        archive,
+        key,
+        port,
+        count,
+    })
+}
+
+/// Makes the job of `listen` from its arguments. Fails with `Usage::Numbers` if the port or the count isn't a valid number.
+#[tactic(auto, using(crate::proofs::WordsLemmas::port_usage))]
+fn listen_of<'a>(words: &ArgMatches<'a>) -> Result<Job<'a>, Usage>
+    ensures job { IfOk result (IsJobOf Act.Listen (rows_of (found_of words.now))) }
+    ensures usage { IfErr result (IsActUsage Act.Listen (rows_of (found_of words.now))) }
+{
+    let Some(archive) = text_of(words, "archive") else {
+        return Err(Usage::Parser);
+    };
+    let (port, count) = match port_and_count(words) {
+        Ok(numbers) => numbers,
+        Err(usage) => return Err(usage),
+    };
+    Ok(Job::Listen {
+        archive,
+        port,
+        count,
+    })
+}
+
+/// Reads the port, 1 to 65535, and the count, 1 to 1,000,000. Fails with `Usage::Numbers` if one of them isn't a valid number.
+fn port_and_count(words: &ArgMatches<'_>) -> Result<(u16, u32), Usage>
+    ensures numbers { IfOk result (λ n. IsNumbered (rows_of (found_of words.now)) (codes "port") 65535 n.0
+        × IsNumbered (rows_of (found_of words.now)) (codes "count") 1000000 n.1) }
+    ensures usage { IfErr result (IsPortUsage (rows_of (found_of words.now))) }
+{
     let (Some(port), Some(count)) = (text_of(words, "port"), text_of(words, "count")) else {
         return Err(Usage::Parser);
     };
@@ -389,12 +448,7 @@ fn serve_of<'a>(words: &ArgMatches<'a>) -> Result<Job<'a>, Usage>
     let Some(count) = read_number(count.as_bytes(), LAST_COUNT) else {
         return Err(Usage::Numbers);
     };
-    Ok(Job::Serve {
-        archive,
-        key,
-        port: port as u16,
-        count,
-    })
+    Ok((port as u16, count))
 }
 
 /// Converts an error of the parser: the usage, unless the parser was out of memory.

@@ -1,4 +1,4 @@
-use Rattle.std.proofs.Common.{◌≡◌, ◌∙◌, List, ℕ, Ok, Err, sym, subst}
+use Rattle.std.proofs.Common.{◌∙◌, List, ℕ, Ok, Err, sym, subst}
 use Rattle.tacho_state.specs.declared.caller.Caller.TheVariants as caller
 use Rattle.tacho_desk.specs.Doing.{AsksOnly, Serves}
 use Rattle.tacho_desk.specs.Tasks.{Does, IsFaulty, IsSound, want_of}
