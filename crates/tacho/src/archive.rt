@@ -6,10 +6,11 @@
 ghost use Rattle.std.specs.Prelude.{◌≡◌, false};
 
 use sqlite::{Alter, Connection, Error, ErrorCode, File, FileStore};
+use std::alloc::AllocError;
 use std::fs::{self, Permissions};
-use std::os::unix::fs::{OpenOptionsExt, PermissionsExt};
+use std::os::unix::fs::{MetadataExt, OpenOptionsExt, PermissionsExt};
 use tacho_cli::{DeskJob, perform_at_desk};
-use tacho_serve::{ServeFault, serve};
+use tacho_serve::{Place, ServeFault, serve};
 use tacho_state::StoreFault;
 use tacho_store::Archive;
 use tacho_time::Device;
@@ -117,10 +118,81 @@ fn do_task<S: Alter + Drop>(
     (with_status(status), archive.close())
 }
 
+/// A file as its path finds it: the device that it is on, its number there, and its length in bytes.
+#[derive(Clone, Copy)]
+struct Found {
+    device: u64,
+    number: u64,
+    length: u64,
+}
+
+/// The file that a path finds, if it finds one.
+fn found_at(rt: &HostRuntime, path: &str) -> Option<Found> {
+    match fs::metadata(rt, path) {
+        Ok(found) => Some(Found {
+            device: found.dev(),
+            number: found.ino(),
+            length: found.len(),
+        }),
+        Err(_) => None,
+    }
+}
+
+/// True if the file that was found before is found again, and isn't shorter: an open archive never shortens its files.
+fn is_same(before: Option<Found>, now: Option<Found>) -> bool {
+    match (before, now) {
+        (Some(before), Some(now)) => {
+            now.device == before.device
+                && now.number == before.number
+                && now.length >= before.length
+        }
+        _ => false,
+    }
+}
+
+/// The files of an open archive, as their paths have last found them.
+#[derive(Drop)]
+struct Files<'a> {
+    path: &'a str,
+    log_path: String,
+    file: Option<Found>,
+    log: Option<Found>,
+}
+
+impl<'a> Files<'a> {
+    /// The files of the archive that has just been opened.
+    fn of(rt: &HostRuntime, path: &'a str) -> Result<Files<'a>, AllocError> {
+        let log_path = format!(in rt.alloc(); "{path}-wal")?;
+        let file = found_at(rt, path);
+        let log = found_at(rt, &log_path);
+        Ok(Files {
+            path,
+            log_path,
+            file,
+            log,
+        })
+    }
+}
+
+impl Place for Files<'_> {
+    /// True if the paths still find the files that are open. If a file was removed, replaced or cut, what the archive goes on to write is lost
+    /// when it is closed.
+    fn is_there(&mut self, rt: &HostRuntime) -> bool {
+        let file = found_at(rt, self.path);
+        let log = found_at(rt, &self.log_path);
+        // The log may have been made since.
+        let is_there = is_same(self.file, file) && (self.log.is_none() || is_same(self.log, log));
+        self.file = file;
+        self.log = log;
+        is_there
+    }
+}
+
 /// `tacho serve`: answers `count` connections on a port of 127.0.0.1, at an existing archive.
 fn serve_requests<S: Alter + Drop>(
     rt: &HostRuntime,
     conn: Connection<S>,
+    path: &str,
     key: &str,
     port: u16,
     count: u32,
@@ -131,7 +203,10 @@ fn serve_requests<S: Alter + Drop>(
         Ok(archive) => archive,
         Err(refusal) => return (refused(refusal.0), refusal.1),
     };
-    let ending = match serve(rt, &mut archive, key, port, count) {
+    let Ok(mut files) = Files::of(rt, path) else {
+        return (refused(StoreFault::Memory), archive.close());
+    };
+    let ending = match serve(rt, &mut archive, &mut files, key, port, count) {
         Ok(()) => with_status(0),
         Err(ServeFault::Device) => Ending {
             line: "X2 device failed\n",
@@ -142,10 +217,11 @@ fn serve_requests<S: Alter + Drop>(
     (ending, archive.close())
 }
 
-/// Does the work at the archive of a connection.
+/// Does the work at the archive of a connection to the file with this path.
 fn at_connection<S: Alter + Drop>(
     rt: &HostRuntime,
     conn: Connection<S>,
+    path: &str,
     work: Work<'_>,
 ) -> (Ending, Connection<S>) {
     if !conn.is_autocommit() {
@@ -155,7 +231,7 @@ fn at_connection<S: Alter + Drop>(
         Work::Create => create_archive(conn),
         Work::Migrate => migrate_archive(conn),
         Work::Task(job) => do_task(rt, conn, job),
-        Work::Serve { key, port, count } => serve_requests(rt, conn, key, port, count),
+        Work::Serve { key, port, count } => serve_requests(rt, conn, path, key, port, count),
     }
 }
 
@@ -220,7 +296,7 @@ fn open_file(rt: &HostRuntime, path: &str, work: Work<'_>) -> Result<FileConnect
 pub fn at_file(rt: &HostRuntime, path: &str, work: Work<'_>) -> u8 {
     match open_file(rt, path, work) {
         Ok(conn) => {
-            let (ending, conn) = at_connection(rt, conn, work);
+            let (ending, conn) = at_connection(rt, conn, path, work);
             let _ = conn.close();
             tell(rt, ending)
         }

@@ -56,6 +56,18 @@ fn run(rt: &HostRuntime, job: Job<'_>) -> u8 {
             port,
             count,
         } => at_file(rt, archive, Work::Serve { key, port, count }),
+        Job::Listen {
+            archive,
+            port,
+            count,
+        } => match tacho_cli::office_key(alloc, &mut reader, &mut writer) {
+            Ok(key) => {
+                let key = key.as_str();
+                at_file(rt, archive, Work::Serve { key, port, count })
+            }
+            Err(status) => status,
+        },
+        Job::Version => tacho_cli::version(&mut writer),
     }
 }
 

@@ -4,4 +4,4 @@
 mod serving;
 mod timed;
 
-pub use serving::{ServeFault, serve};
+pub use serving::{Place, ServeFault, serve};

@@ -68,16 +68,24 @@ pub enum ServeFault {
     /// The port is not available, or no more connections can be accepted.
     #[error("the port failed")]
     Device,
-    /// The archive's store has failed and was shut. Nothing can be answered until it is opened again.
+    /// The archive's store has failed and was shut, or the archive is no longer in its place. Nothing can be answered until it is opened
+    /// again.
     #[error("the archive's store failed")]
     Store,
 }
 
+/// Where an archive is kept, beside the connection that keeps it open.
+pub trait Place {
+    /// True if it is still where it was opened. Otherwise what is written to it now may be lost when it is closed.
+    fn is_there(&mut self, rt: &HostRuntime) -> bool;
+}
+
 /// Answers `count` connections on a port of 127.0.0.1, one after the other. Each connection has 30 seconds. A fault of a connection ends
-/// only that connection.
-pub fn serve<K: Keeper>(
+/// only that connection. Once the archive is no longer in its place, no further connection is answered.
+pub fn serve<K: Keeper, P: Place>(
     rt: &HostRuntime,
     keeper: &mut K,
+    place: &mut P,
     key: &str,
     port: u16,
     count: u32,
@@ -89,6 +97,9 @@ pub fn serve<K: Keeper>(
         let Ok(stream) = accept(rt, &listener) else {
             return Err(ServeFault::Device);
         };
+        if !place.is_there(rt) {
+            return Err(ServeFault::Store);
+        }
         let _ = answer_one(rt, keeper, key, &stream);
         if has_failed(rt, keeper, key) {
             return Err(ServeFault::Store);
