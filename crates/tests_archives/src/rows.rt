@@ -3,7 +3,7 @@
 use crate::step::Standing::{Kept, Withdrawn};
 use crate::step::Step::{
     Adds, Enter, Has, HasName, HasNoEntries, HasNoLine, HasNoName, HasNoReport, Holds, IsOf, Lacks,
-    Lists, Rebase, Refuses, Register, Repeats, Reports, Withdraw,
+    Lists, Rebase, Refuses, Register, Rekey, Repeats, Reports, Withdraw,
 };
 use crate::step::{Code, Listed, Pieces, Step};
 use crate::stretch_rows::{
@@ -362,6 +362,29 @@ const DRIVERS_ARE_REBASED: &[Step] = &[
     Rebase(18, 7, Err(Code::S4)),
     Rebase(18, 1, Err(Code::S4)),
     Register(17, ANNAS_HOLDER, "anna-key-1", 0, Err(Code::S1)),
+];
+
+/// A driver gets another key: S2, S4.
+const DRIVERS_ARE_REKEYED: &[Step] = &[
+    REGISTER_ANNA,
+    REGISTER_BERT,
+    Rekey(17, "anna-key-2", Ok(())),
+    IsOf(b"anna-key-1", None),
+    IsOf(b"anna-key-2", Some(17)),
+    IsOf(b"bert-key-1", Some(18)),
+    Rekey(17, "bert-key-1", Err(Code::S2)),
+    Rekey(19, "bert-key-1", Err(Code::S2)),
+    Rekey(19, "anna-key-1", Err(Code::S4)),
+    Rekey(17, "anna-key-2", Ok(())),
+    IsOf(b"anna-key-2", Some(17)),
+    Rekey(18, "anna-key-1", Ok(())),
+    Rekey(17, "bert-key-1", Ok(())),
+    IsOf(b"anna-key-1", Some(18)),
+    IsOf(b"bert-key-1", Some(17)),
+    IsOf(b"anna-key-2", None),
+    Register(19, [0; 15], "bert-key-1", 0, Err(Code::S2)),
+    HasName(17, "Driver 17"),
+    Adds(Caller::Driver(17), Part::Both, &[ANNA, FIRST, DAY], 17, 1),
 ];
 
 /// An import is for the driver who owns the card: S4, S5.
@@ -760,6 +783,7 @@ pub(crate) const ROWS: [(&str, &[Step]); 40] = [
     ),
     ("registrations are refused", REGISTRATIONS_ARE_REFUSED),
     ("drivers are rebased", DRIVERS_ARE_REBASED),
+    ("drivers are rekeyed", DRIVERS_ARE_REKEYED),
     ("a card has its owner", A_CARD_HAS_ITS_OWNER),
     ("a file's fault comes first", A_FILES_FAULT_COMES_FIRST),
     ("what is unknown is not read", WHAT_IS_UNKNOWN_IS_NOT_READ),

@@ -9,7 +9,7 @@ use tacho_card::{CardFault, Part};
 use tacho_line::Line;
 use tacho_rules::{Cause, Horizon, Kind, Report};
 use tacho_sheet::read_entries;
-use tacho_state::{Caller, Driver, Entered, Entry, Imported, Keeper, StoreFault};
+use tacho_state::{Caller, Driver, Entered, Entry, Imported, Keeper, StoreFault, is_key};
 use tacho_stretches::Stretch;
 use tacho_time::{Activity, Day, Mark, Minute, Span};
 
@@ -93,6 +93,8 @@ pub(crate) enum Step {
     Withdraw(u32, u32, Result<(), Code>),
     /// A driver's base is set to another day.
     Rebase(u32, u8, Result<(), Code>),
+    /// A driver's key is set to another one.
+    Rekey(u32, &'static str, Result<(), Code>),
     /// A key is of this driver, or of none.
     IsOf(&'static [u8], Option<u32>),
     /// A driver has this name.
@@ -179,6 +181,11 @@ fn take_one<K: Keeper>(
         }
         Step::Rebase(driver, day, wanted) => {
             let answer = keeper.rebase(driver, day_of(day));
+            assert_answered(rt, place, answer, wanted.map_err(refusal_of));
+        }
+        Step::Rekey(driver, key, wanted) => {
+            assert!(rt; is_key(key), "{place}: the key");
+            let answer = keeper.rekey(driver, key);
             assert_answered(rt, place, answer, wanted.map_err(refusal_of));
         }
         reading => take_reading(rt, alloc, keeper, place, reading)?,

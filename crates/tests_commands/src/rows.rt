@@ -119,7 +119,21 @@ EXAMINED TO 2024-03-04 17:00 unknown
 ";
 
 /// Rows that begin after the driver was registered.
-static ROWS: [(&str, &[Command]); 8] = [
+static ROWS: [(&str, &[Command]); 9] = [
+    (
+        "keys",
+        &[
+            ("key 17", "anna-key-2\r\n", "key 17\n", 0),
+            ("key 17", "anna-key-2", "key 17\n", 0),
+            ("key 17", "", "E9 bad value for key\n", 1),
+            ("key 17", "anna_key_3\n", "E9 bad value for key\n", 1),
+            ("key 17", "anna-key-3\n\n", "E9 bad value for key\n", 1),
+            ("key 017", "", "N1 bad number\n", 1),
+            ("key 18", "anna-key-2\n", "S2 key taken\n", 1),
+            ("key 18", "anna-key-1\n", "S4 unknown driver\n", 1),
+            ("key 17", "anna-key-1\n", "key 17\n", 0),
+        ],
+    ),
     (
         "a day",
         &[

@@ -94,7 +94,7 @@ pub(crate) const KINDS: [Kind; 4] = [
 const SATURDAY: &str = "start,past,activity\n2024-03-09 00:00,2024-03-10 00:00,rest\n";
 
 /// The commands that are interrupted. Each except the entry is repeated, and the last one is refused.
-const SCRIPT: [Command; 12] = [
+const SCRIPT: [Command; 14] = [
     ANNA,
     ("register", REGISTRATION, "S1 driver taken\n", 1),
     ("import both", NOON, "added driver 17 number 1\n", 0),
@@ -106,6 +106,8 @@ const SCRIPT: [Command; 12] = [
     ("import both", A_DAY, "repeated driver 17\n", 0),
     ("base 17 2024-03-11", "", "base 2024-03-11\n", 0),
     ("base 17 2024-03-11", "", "base 2024-03-11\n", 0),
+    ("key 17", "anna-key-2", "key 17\n", 0),
+    ("key 17", "anna-key-2", "key 17\n", 0),
     (
         "import both",
         ANOTHER_DAY,

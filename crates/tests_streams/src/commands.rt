@@ -368,7 +368,7 @@ fn writers_fail_at_each_call(rt: HostRuntime) -> Result<(), Fail> {
 }
 
 /// Arguments, and the job that they name.
-static JOBS: [(&[&str], Job<'static>); 27] = [
+static JOBS: [(&[&str], Job<'static>); 30] = [
     (&["tacho", "dump"], Job::Dump),
     (&["tacho", "holder"], Job::Holder),
     (&["tacho", "card", "first"], Job::Card { part: "first" }),
@@ -420,6 +420,15 @@ static JOBS: [(&[&str], Job<'static>); 27] = [
             want: Want::Base,
             driver: "17",
             word: "2024-03-11",
+        }),
+    ),
+    (
+        &["tacho", "key", "a.db", "17"],
+        Job::AtDesk(DeskJob {
+            archive: "a.db",
+            want: Want::Key,
+            driver: "17",
+            word: "",
         }),
     ),
     (
@@ -575,6 +584,15 @@ static JOBS: [(&[&str], Job<'static>); 27] = [
             count: 1,
         },
     ),
+    (
+        &["tacho", "listen", "a.db", "8017", "1000"],
+        Job::Listen {
+            archive: "a.db",
+            port: 8_017,
+            count: 1_000,
+        },
+    ),
+    (&["tacho", "version"], Job::Version),
 ];
 
 /// Ports and counts, one of which isn't a valid number.
@@ -607,7 +625,10 @@ fn words_name_jobs(rt: HostRuntime) -> Result<(), Fail> {
         let given = strings(alloc, words)?;
         let named = parse(alloc, &given).map_err(|_| "words that name a job")?;
         assert_same(&rt, named, job);
-        let has_archive = !matches!(job, Job::Dump | Job::Holder | Job::Card { .. });
+        let has_archive = !matches!(
+            job,
+            Job::Dump | Job::Holder | Job::Card { .. } | Job::Version
+        );
         assert_same(&rt, named.archive(), has_archive.then_some("a.db"));
         assert_same(
             &rt,
@@ -615,7 +636,7 @@ fn words_name_jobs(rt: HostRuntime) -> Result<(), Fail> {
             has_archive
                 && !matches!(
                     job,
-                    Job::Init { .. } | Job::Migrate { .. } | Job::Serve { .. }
+                    Job::Init { .. } | Job::Migrate { .. } | Job::Serve { .. } | Job::Listen { .. }
                 ),
         );
     }
@@ -629,7 +650,11 @@ fn ports_and_counts_are_numbers(rt: HostRuntime) -> Result<(), Fail> {
         let words = ["tacho", "serve", "a.db", "office-key-1", port, count];
         let given = strings(alloc, &words)?;
         let is_refused = matches!(parse(alloc, &given), Err(Usage::Numbers));
-        assert!(rt; is_refused, "of {port} and {count}");
+        assert!(rt; is_refused, "serve, of {port} and {count}");
+        let words = ["tacho", "listen", "a.db", port, count];
+        let given = strings(alloc, &words)?;
+        let is_refused = matches!(parse(alloc, &given), Err(Usage::Numbers));
+        assert!(rt; is_refused, "listen, of {port} and {count}");
     }
     Ok(())
 }
@@ -650,6 +675,7 @@ Commands:
   enter      Enters hours of a driver by hand: tacho enter ARCHIVE DRIVER < CSV with the head start,past,activity or start,past,activity,author,note
   withdraw   Withdraws an entry, which stays listed
   base       Sets the Monday from which a driver is examined: DATE is YYYY-MM-DD
+  key        Sets the key of a driver: tacho key ARCHIVE DRIVER < FILE, of which the only line is the key
   spans      Prints what a driver holds in a month as CSV: MONTH is YYYY-MM
   gaps       Prints the minutes of a month that a driver doesn't hold
   sheet      Prints the sheet of a driver's month
@@ -667,6 +693,8 @@ Commands:
   incidents  Prints the breaches of a month of all drivers as CSV
   form       Prints CSV of the minutes that a driver doesn't hold, to be filled in and entered
   serve      Answers COUNT connections on PORT of 127.0.0.1, a request each: the office's by its KEY, drivers' by their own
+  listen     Does as serve, with the office's key from its input: tacho listen ARCHIVE PORT COUNT < FILE, of which the only line is the key
+  version    Prints the version of this program, the schema of the archives that it makes, and the kit that has proved it
   help       Print this message or the help of the given subcommand(s)
 
 Options:
@@ -745,7 +773,7 @@ For more information, try '--help'.
 
 const NO_COMMAND: &str = "\
 error: 'tacho' requires a subcommand but one was not provided
-  [subcommands: dump, holder, card, init, migrate, register, import, enter, withdraw, base, spans, gaps, sheet, chart, breaches, why, owed, entries, file, files, drivers, stretches, debts, overview, incidents, form, serve, help]
+  [subcommands: dump, holder, card, init, migrate, register, import, enter, withdraw, base, key, spans, gaps, sheet, chart, breaches, why, owed, entries, file, files, drivers, stretches, debts, overview, incidents, form, serve, listen, version, help]
 
 Usage: tacho <COMMAND>
 

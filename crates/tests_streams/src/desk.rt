@@ -14,7 +14,7 @@ use tacho_time::{Device, Sink, Source};
 pub(crate) type Case = (Job<'static>, &'static [u8], &'static str, &'static str);
 
 /// Jobs that have an input, in sequence.
-pub(crate) static CASES: [Case; 3] = [
+pub(crate) static CASES: [Case; 4] = [
     (
         Job::AtDesk(DeskJob {
             archive: "a.db",
@@ -47,6 +47,17 @@ pub(crate) static CASES: [Case; 3] = [
         b"start,past,activity\n2024-03-06 00:00,2024-03-06 08:00,rest\n",
         "entered 1 to 1\n",
         "entered 2 to 2\n",
+    ),
+    (
+        Job::AtDesk(DeskJob {
+            archive: "a.db",
+            want: Want::Key,
+            driver: "17",
+            word: "",
+        }),
+        b"anna-key-2\r\n",
+        "key 17\n",
+        "key 17\n",
     ),
 ];
 
