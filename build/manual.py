@@ -25,7 +25,7 @@ STATUSES = {
 # The files that the program and its service use.
 FILES = {
     "/var/lib/tacho/archive.db": "The archive of the service. Beside it is its log, archive.db-wal, which belongs to it.",
-    "/etc/tacho/key": "The office's key, in one line: TACHO_KEY= and the key.",
+    "/etc/tacho/key": "The office's key, as the only line.",
     "tacho.service": "The unit of the service for systemd.",
     "tacho-backup.service, tacho-backup.timer": "The units that copy the archive to /var/backups/tacho each night.",
 }

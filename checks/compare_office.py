@@ -55,6 +55,8 @@ NO_COMMANDS = [
     ["withdraw", "PATH", "17", "1", "1"],
     ["base", "PATH", "17"],
     ["base", "PATH", "17", "2024-03-11", "1"],
+    ["key", "PATH"],
+    ["key", "PATH", "17", "anna-key-2"],
     ["spans", "PATH", "17"],
     ["spans", "PATH", "17", "2024-03", "2024-04"],
     ["gaps", "PATH", "17"],
@@ -83,6 +85,9 @@ NO_COMMANDS = [
     ["form", "PATH", "17", "2024-03"],
     ["card"],
     ["card", "both", "17"],
+    ["version", "PATH"],
+    ["listen", "PATH", "8017"],
+    ["listen", "PATH", "office-key-1", "8017", "1"],
     ["breaches", "PATH", "--all", "17"],
     ["breaches", "PATH", b"\xff"],
 ]
@@ -246,7 +251,7 @@ def of_inputs(program):
     with tempfile.TemporaryDirectory() as folder:
         desk = Desk(program, folder)
         desk.prepare(WITH_DAY)
-        for words in ["register", "import both", "enter 17"]:
+        for words in ["register", "import both", "enter 17", "key 17"]:
             source = os.open(folder, os.O_RDONLY)
             made = subprocess.run(desk.words(words.split()), stdin=source, capture_output=True)
             os.close(source)

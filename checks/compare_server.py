@@ -597,6 +597,53 @@ def of_arguments(program):
         yield desk.tables("after arguments with which no server begins")
 
 
+# Arguments of `listen` and its input, with which no server begins. The input is looked at first.
+LARGE_KEY = (b"X1 too large\n", 1)
+
+LISTENED = [
+    *[(["PATH", "PORT", "1"], given, BAD_KEY) for given in [b"", b"\n", b"short-1\n", b"under_score", f"{OFFICE}\n\n".encode(), 65 * b"k"]],
+    (["NONE", "TAKEN", "1"], b"short-1\n", BAD_KEY),
+    (["NONE", "TAKEN", "1"], (LIMIT + 1) * b"k", LARGE_KEY),
+    (["NONE", "TAKEN", "1"], OFFICE.encode(), NO_STORE),
+    (["PATH", "TAKEN", "1"], f"{OFFICE}\r\n".encode(), NO_PORT),
+    *[(["PATH", port, "1"], OFFICE.encode(), USAGE) for port in ["0", "65536", "port", ""]],
+    *[(["PATH", "PORT", count], OFFICE.encode(), USAGE) for count in ["0", "1000001", "many", ""]],
+    (["PATH", OFFICE, "PORT", "1"], b"", USAGE),
+    (["PATH", "PORT"], OFFICE.encode(), USAGE),
+]
+
+
+def of_unlistened(program):
+    """The comparisons of arguments and inputs of `listen` with which no server begins."""
+    with tempfile.TemporaryDirectory() as folder, socket.create_server((HOST, 0)) as other:
+        desk = Desk(program, folder)
+        desk.prepare(WITH_ANNA)
+        named = {"PATH": desk.path, "NONE": f"{desk.path}.none", "PORT": str(free_port()), "TAKEN": str(other.getsockname()[1])}
+        for words, given, (text, status) in LISTENED:
+            told, code, errors = programs.told_by([program, "listen", *[named.get(word, word) for word in words]], given)
+            yield f"listen {words} with {given[:20]!r}", (told, code, bool(errors)), (text, status, status == 2)
+        source = os.open(folder, os.O_RDONLY)
+        made = subprocess.run([program, "listen", desk.path, named["PORT"], "1"], stdin=source, capture_output=True)
+        os.close(source)
+        yield "listen with a folder as input", (made.stdout, made.returncode, made.stderr), (*NO_PORT, b"")
+        yield desk.tables("after inputs with which nobody listens")
+
+
+def of_listening(program):
+    """The comparisons of a server that was given its key as its input."""
+    requests = [asking("GET /drivers/17/entries", key) for key in [OFFICE, DRIVER, "office-key-2", f"{OFFICE}1", OFFICE[:-1]]]
+    requests += [posting("/cards/both", OFFICE, DAY), OWN, asking("GET /me/breaches", OFFICE)]
+    for end in ("", "\n", "\r\n"):
+        with tempfile.TemporaryDirectory() as folder:
+            desk = Desk(program, folder)
+            desk.prepare(WITH_ANNA)
+            server = server_after(WITH_ANNA)
+            with Serving(program, desk.path, f"{OFFICE}{end}", len(requests), listens=True) as serving:
+                for request in requests:
+                    yield f"a listener, with {end!r}: {request[:40]!r}", serving.ask([request], False), server.reply(request)
+                yield f"a listener, with {end!r}: the end", serving.end(), ENDED
+
+
 # All
 
 
@@ -605,7 +652,7 @@ def comparisons(program: str) -> counting.Comparisons:
     questions: list[tuple[Any, ...]] = [(of_rows, started, name) for name in ROWS]
     questions += [(of_library, started), (of_document, started), (of_variety,)]
     if started:
-        questions += [(part, started) for part in [of_leaving, of_pieces, of_arguments]]
+        questions += [(part, started) for part in [of_leaving, of_pieces, of_arguments, of_unlistened, of_listening]]
         questions += [(of_seed, started, seed) for seed in range(SEEDS)]
     yield from pools.of_questions(questions, PROCESSES)
 

@@ -51,6 +51,8 @@ CASES = {
     "hours without an author": ([REGISTER], (["enter", "17"], NO_AUTHOR)),
     "a withdrawal": (WITH_HOURS, (["withdraw", "17", "2"], b"")),
     "another base": ([REGISTER], (["base", "17", "2024-03-11"], b"")),
+    "another key": ([REGISTER], (["key", "17"], b"anna-key-2\n")),
+    "a taken key": ([REGISTER, OTHER], (["key", "17"], b"carl-key-1")),
     "a timeline": (WITH_DAY, (["spans", "17", "2024-03"], b"")),
     "a sheet": (WITH_DAY, (["sheet", "17", "2024-03"], b"")),
     "a chart": (WITH_DAY, (["chart", "17", "2024-03"], b"")),

@@ -37,6 +37,8 @@ CASES = {
     "signed hours": (WITH_DAY, SIGNED),
     "a withdrawal": (WITH_HOURS, (["withdraw", "17", "2"], b"")),
     "another base": (WITH_DAY, (["base", "17", "2024-03-11"], b"")),
+    "another key": (WITH_DAY, (["key", "17"], b"anna-key-2\n")),
+    "a taken key": ([ANNA, OTHER], (["key", "17"], b"carl-key-1")),
     "a migration": (OF_SCHEMA_1, (["migrate"], b"")),
     "an old archive": (OF_SCHEMA_1, (["drivers"], b"")),
     "spans": (WITH_HOURS, (["spans", "17", "2024-03"], b"")),
@@ -58,7 +60,8 @@ CASES = {
 # Those of a disk that stops, and for how many calls it does so; and the making of an archive.
 NEW = {"a new archive": (NO_FILE, (["init"], b""))}
 
-STOPPED = [*NEW, "a first driver", "a first download", "signed hours", "a withdrawal", "another base", "a migration", "an old archive"]
+STOPPED = [*NEW, "a first driver", "a first download", "signed hours", "a withdrawal", "another base", "another key"]
+STOPPED += ["a migration", "an old archive"]
 STOPS = {"the disk stopped at": None, "the disk failed": 1}
 
 

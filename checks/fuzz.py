@@ -92,7 +92,7 @@ def of_files(program, name, files):
 
 COUNTS = {"dump": 0, "holder": 0, "card": 1, "init": 1, "migrate": 1, "register": 1, "drivers": 1, "import": 2, "enter": 2}
 COUNTS |= {"breaches": 2, "owed": 2, "entries": 2, "withdraw": 3, "base": 3, "spans": 3, "gaps": 3, "sheet": 3, "chart": 3, "file": 3}
-COUNTS |= {"why": 3, "files": 2, "stretches": 2, "debts": 2, "overview": 2, "incidents": 2, "form": 2}
+COUNTS |= {"version": 0, "key": 2, "why": 3, "files": 2, "stretches": 2, "debts": 2, "overview": 2, "incidents": 2, "form": 2}
 USAGE = b"", 2
 
 
@@ -118,6 +118,8 @@ def answer_to(office, words, given):
     values = values_of(others)
     if any(NO_TEXT in word for word in words) or values is None or len(values) != COUNTS.get(name):
         return USAGE
+    if name == "version":
+        return programs.version_lines(), 0
     if name in ("dump", "holder", "card"):
         return without_archive(name, given, *values)
     return office.answer([name, *values[1:]], given) if values[0] == PATH and name != "init" else STORE_FAILED[:2]

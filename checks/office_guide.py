@@ -19,7 +19,8 @@ import tempfile
 import time
 
 from inputs.random_commands import hours_csv
-from lib import counting, old_archive
+from lib import counting, files, old_archive
+from lib.archive import tables
 from lib.files import EXAMPLES, TOP, read
 from lib.office_rows import ANNA, CREW_DAY, DAY, HOLDER, OTHER_DAY
 from lib.proxy import OPENED, Proxy
@@ -33,8 +34,7 @@ unit=$ROOT/etc/systemd/system/tacho.service
 command() { sed -n "s/^$1=-*//p" "$unit"; }
 case $* in
 "start tacho" | "enable --now tacho")
-    . "$ROOT/etc/tacho/key"
-    eval "exec $(command ExecStart)" >"$ROOT/journal" 2>&1 </dev/null &
+    eval "exec $(command ExecStart)" >"$ROOT/journal" 2>&1 <"$ROOT$(command StandardInput | sed 's/^file://')" &
     echo $! >"$ROOT/pid"
     tries=0
     until curl -s -o /dev/null http://127.0.0.1:$PORT/ || [ $((tries += 1)) -gt 200 ]; do sleep 0.05; done
@@ -525,6 +525,24 @@ def updates(office):
         yield "a migration once more", office.told("migrate"), "migrated\n"
 
 
+def secret_of(office):
+    """The key of the driver, by the tables."""
+    with tempfile.TemporaryDirectory() as aside:
+        return tables(files.copied(office.path("archive.db"), aside))["drivers"][0][2]
+
+
+def keys(office):
+    """Another key for a driver, and one that nobody knows."""
+    with undone(office):
+        yield office.typed('(umask 077; echo "$(tr', "key 17\n")
+        key = office.read("anna.key")
+        yield "the file of the key", (re.fullmatch("[a-zA-Z0-9]{32}\n", key) is not None, mode(office.path("anna.key"))), (True, 0o600)
+        yield "the driver's key", f"{secret_of(office)}\n", key
+        yield office.typed("tr -dc a-zA-Z0-9 < /dev/urandom", "key 17\n")
+        other = secret_of(office)
+        yield "a key that nobody knows", (re.fullmatch("[a-zA-Z0-9]{32}", other) is not None, f"{other}\n" == key), (True, False)
+
+
 def services(office):
     """The service, by its unit: made, asked, backed up, and restored."""
     root = office.root
@@ -540,12 +558,12 @@ def services(office):
     key = os.path.join(root, "etc/tacho/key")
     with open(key, encoding="utf-8") as file:
         text = file.read()
-    yield "the office's key", (re.fullmatch("TACHO_KEY=[a-zA-Z0-9]{32}\n", text) is not None, mode(key)), (True, 0o600)
+    yield "the office's key", (re.fullmatch("[a-zA-Z0-9]{32}\n", text) is not None, mode(key)), (True, 0o600)
     yield office.typed("install -m 644 examples/tacho.service", "")
     sign = next(block for block in office.left if block.startswith("curl -s -o /dev/null"))
     yield office.typed("curl -s -o /dev/null", "403\n")
     yield "a command while it serves", office.type("/usr/local/bin/tacho entries /var/lib/tacho/archive.db 17"), ("S12 store failed\n", 3)
-    yield office.typed("(umask 077; sed", "repeated driver 17\n")
+    yield office.typed("(umask 077; echo \"x-key:", "repeated driver 17\n")
     names = list(DOWNLOADS)[:8]
     loop = next(block for block in office.left if block.startswith(FOLDER_LOOP))
     yield office.typed(FOLDER_LOOP, *folder_text(names))
@@ -648,19 +666,21 @@ def unit_commands(office, name):
 
 
 def served_by_hand(office):
-    """`serve` as it is typed."""
-    block = office.block("./tacho serve archive.db KEY")
-    words = office.here(block).replace("KEY", KEY).replace("1000\n", "2\n").split()
-    server = subprocess.Popen([office.program, *words[1:]], cwd=office.folder, stdout=subprocess.PIPE)
+    """`serve` and `listen` as they are typed."""
+    office.write("office.key", f"{KEY}\n")
     ask = ["curl", "-s", "-H", f"x-key: {KEY}", f"http://127.0.0.1:{office.port}/drivers/17/owed"]
-    told = []
-    while len(told) < 2:
-        run = subprocess.run(ask, capture_output=True, env=office.environment)
-        if run.returncode == 0:
-            told.append(run.stdout.decode())
-        else:
-            time.sleep(0.05)
-    yield block.strip(), (server.communicate(timeout=20)[0], server.returncode, told), (b"", 0, 2 * [office.told("owed", "17")])
+    for beginning in ("./tacho serve archive.db KEY", "./tacho listen archive.db"):
+        block = office.block(beginning)
+        text = re.sub(r" 1000\b", " 2", office.here(block).replace("KEY", KEY))
+        server = subprocess.Popen(["sh", "-c", f"exec {text}"], cwd=office.folder, stdout=subprocess.PIPE)
+        told = []
+        while len(told) < 2:
+            run = subprocess.run(ask, capture_output=True, env=office.environment)
+            if run.returncode == 0:
+                told.append(run.stdout.decode())
+            else:
+                time.sleep(0.05)
+        yield block.strip(), (server.communicate(timeout=20)[0], server.returncode, told), (b"", 0, 2 * [office.told("owed", "17")])
 
 
 def front(_):
@@ -687,7 +707,7 @@ def comparisons(program: str) -> counting.Comparisons:
     with tempfile.TemporaryDirectory() as folder:
         office = Office(program, folder)
         try:
-            for part in (front, beginnings, weeks, spreadsheets, months, inspections, readings, letters, backups, updates, services):
+            for part in (front, beginnings, weeks, spreadsheets, months, inspections, readings, letters, keys, backups, updates, services):
                 yield from part(office)
         finally:
             office.end()

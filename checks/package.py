@@ -2,7 +2,7 @@
 """Makes the packages of the program (build/package) twice, under different circumstances, and compares their bytes, their digests, and the
 owners, modes and times in them. Installs the Debian package by dpkg in a root of its own, runs the tour there as the user `tacho`, updates
 the package, removes it and purges it, with and without an archive, and compares what is left. Runs the tour from the tar file. Compares the
-man page with what the program prints for `tacho help` and `tacho help COMMAND`, and CHANGELOG.md with VERSION.
+man page with what the program prints for `tacho help` and `tacho help COMMAND`, and CHANGELOG.md and `tacho version` with VERSION.
 
 Argument: the program. Where dpkg-deb isn't installed, only the man page and CHANGELOG.md are looked at. Only root can install the package.
 The last line is 'N passed, M failed'."""
@@ -21,7 +21,7 @@ import time
 from lib import counting, root
 from lib.counting import Comparisons
 from lib.files import EXAMPLES, TOP, content, read, write
-from lib.programs import told_by
+from lib.programs import told_by, version_lines
 from lib.root import Root
 
 MANUAL = os.path.join(TOP, "build", "manual.py")
@@ -107,6 +107,11 @@ def man_page(program: str) -> Comparisons:
         yield "what groff says about the man page", told_by(["groff", "-man", "-ww", "-Tascii", "-z"], told), (b"", 0, b"")
     else:
         print("left out: what groff says about the man page: apt install groff-base", flush=True)
+
+
+def of_version(program: str) -> Comparisons:
+    """What `version` prints: the version of the sources, the schema of the archives, and the kit's own line."""
+    yield "the lines of version", told_by([program, "version"]), (version_lines(), 0, b"")
 
 
 def change_log() -> Comparisons:
@@ -260,7 +265,7 @@ def kept(place: Root, before: dict[str, root.Place], name: str, others: list[str
 def removals(place: Root, package: str, before: dict[str, root.Place]) -> Comparisons:
     """An update, a removal, a purge and another installation, none of which touches the archive; and a purge without an archive."""
     user = place.user("tacho")
-    place.write("etc/tacho/key", "TACHO_KEY=office-key-1\n", 0o600)
+    place.write("etc/tacho/key", "office-key-1\n", 0o600)
     if os.path.exists(place.path("usr/bin/systemctl")):
         told = place.run("systemctl", "--quiet", "enable", "tacho.service", "tacho-backup.timer")
         yield "units that the office enables", (told[1], enabled(place)), (0, ["tacho-backup.timer", "tacho.service"])
@@ -326,6 +331,7 @@ def comparisons(program: str) -> Comparisons:
     """All comparisons."""
     program = os.path.abspath(program)
     yield from man_page(program)
+    yield from of_version(program)
     yield from change_log()
     if not shutil.which("dpkg-deb"):
         print("left out: the packages, since dpkg-deb isn't installed: apt install dpkg", flush=True)

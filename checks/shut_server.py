@@ -1,6 +1,7 @@
 #!/usr/bin/env python3
 """Starts the program as a server on a disk that stops at each of its calls in turn, or fails that call alone, and looks for a reply, a
-table or an end that is wrong; and looks at who may read the files that it makes.
+table or an end that is wrong; takes its files away while it runs, or refuses it connections; and looks at who may read the files that it
+makes.
 
 A request that changes the archive is replied to as by a slow server, or with 503, and then the archive is as before it or as after it.
 After a 503 the next request is replied to as in one of these two states, or the server has ended, since the store is shut: it says so
@@ -8,6 +9,7 @@ After a 503 the next request is replied to as in one of these two states, or the
 is as it was reported. The file of a new archive and its log are their owner's alone, whatever the umask. Arguments: the program and the
 compiler of C. The last line is 'N passed, M failed'."""
 import contextlib
+import errno
 import itertools
 import multiprocessing
 import os
@@ -22,7 +24,7 @@ from lib import counting, files, killing, pools, programs
 from lib.archive import rows_of, rows_of_office, tables
 from lib.office import CREATED, STORE_FAILED, WITH_ANNA, WITH_DAY, Desk, copy_of, make_text
 from lib.office_rows import ANNA, BERT, DAY, DAY_OFF, LARGEST_DAY, MORNING
-from lib.server import ENDED, OFFICE, UNAVAILABLE, Serving, asking, posting
+from lib.server import ENDED, NO_PORT, OFFICE, UNAVAILABLE, Serving, asking, posting
 from slow import slow_server
 
 PROCESSES = 4  # each waits for its program most of the time
@@ -242,12 +244,93 @@ def of_refused_modes(program):
                 yield f"{name} of mode {mode:03o}: its mode", modes(desk.path)[""], f"{mode:o}"
 
 
+# Files that go while the server runs
+
+
+def replace(path):
+    """Puts a copy in the place of a file."""
+    os.replace(shutil.copy(path, path + ".copy"), path)
+
+
+LOSSES = {
+    "the log removed": lambda path: os.remove(path + "-wal"),
+    "the file removed": os.remove,
+    "the log replaced": lambda path: replace(path + "-wal"),
+    "the file replaced": replace,
+    "the log cut": lambda path: os.truncate(path + "-wal", 32),
+    "the file cut": lambda path: os.truncate(path, 4096),
+}
+
+
+def of_lost_files(program, name):
+    """The comparisons of a server whose file or log goes: it takes no further connection, and says why."""
+    with tempfile.TemporaryDirectory() as folder:
+        desk = Desk(program, folder)
+        desk.prepare(WITH_DAY)
+        with Serving(program, desk.path, OFFICE, 4) as serving:
+            server = slow_server.Server(desk.office, OFFICE)
+            for request in (ENTRIES, ENTER):
+                yield f"{name}: a reply before", serving.ask([request], False), server.reply(request)
+            LOSSES[name](desk.path)
+            yield f"{name}: no reply after", serving.ask([ENTRIES], False), b""
+            serving.lost = None
+            yield f"{name}: the end", serving.end(), STORE_FAILED
+
+
+CHANGED_BASES = 300  # requests of a server whose files stay
+
+
+def of_kept_files(program):
+    """The comparisons of a server whose files stay, through many changes: they don't end it."""
+    with tempfile.TemporaryDirectory() as folder:
+        desk = Desk(program, folder)
+        desk.prepare(WITH_ANNA)
+        requests = [posting("/cards/both", OFFICE, LARGEST_DAY), ENTER]
+        requests += [asking(f"POST /drivers/17/base/2024-03-{day}", OFFICE) for day in ("04", "11", "18") * (CHANGED_BASES // 3)]
+        with Serving(program, desk.path, OFFICE, len(requests)) as serving:
+            server = slow_server.Server(desk.office, OFFICE)
+            for number, request in enumerate(requests, 1):
+                yield f"files that stay, request {number}", serving.ask([request], False), server.reply(request)
+            yield "files that stay: the end", serving.end(), ENDED
+
+
+# Connections that the system refuses
+
+# Errors that may pass, by the name that errno(3) gives them, and one that doesn't pass.
+PASSING = ["ENOMEM", "ENFILE", "EMFILE", "ENOSR", "ENOBUFS", "EPERM", "EAGAIN", "ECONNABORTED", "ENONET", "EPROTO", "ENOPROTOOPT"]
+PASSING += ["EOPNOTSUPP", "ENETDOWN", "ENETUNREACH", "ETIMEDOUT", "EHOSTDOWN", "EHOSTUNREACH"]
+LASTING = "EBADF"
+REFUSALS = 3
+
+
+def of_refused_connections(program, compiler):
+    """The comparisons of a server to which the system refuses a few connections: it answers the next one, or ends at once if the error
+    doesn't pass."""
+    with tempfile.TemporaryDirectory() as folder:
+        desk = Desk(program, folder)
+        desk.prepare(WITH_ANNA)
+        refuser = programs.built(compiler, folder, "refuse_accept")
+        for name in [*PASSING, LASTING]:
+            refused = {"LD_PRELOAD": refuser, "REFUSED_ERROR": str(getattr(errno, name)), "REFUSED_ACCEPTS": str(REFUSALS)}
+            with Serving(program, desk.path, OFFICE, 1, refused) as serving:
+                reply = serving.ask([ENTRIES], False)
+                serving.lost = None
+                told = serving.end()
+            if name == LASTING:
+                yield f"{name}: the end", told, (*NO_PORT, b"refused\n")
+            else:
+                yield f"{name}: a reply", reply, slow_server.Server(desk.office, OFFICE).reply(ENTRIES)
+                yield f"{name}: the end", told, (*ENDED[:2], b"refused\n")
+
+
 # All
 
 
 def comparisons(program: str, compiler: str) -> counting.Comparisons:
     questions: list[tuple[Any, ...]] = [(of_case, program, compiler, case, kind) for case in CASES for kind in STOPS]
     questions += [(of_modes, program, 0o022), (of_modes, program, 0), (of_refused_modes, program), (of_empty_files, program)]
+    questions += [(of_lost_files, program, name) for name in LOSSES]
+    questions += [(of_kept_files, program), (of_refused_connections, program, compiler)]
     kinds = set()
     with multiprocessing.Pool(PROCESSES) as pool:
         for found in pool.imap(pools.of_question, questions):

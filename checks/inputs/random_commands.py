@@ -20,6 +20,7 @@ KEYS = ["anna-key-1", "bert-key-2", "Key3" * 16]
 NAMES = [b"Anna Berg", "Zo\u00eb".encode(), b"B" * 64]
 BASES = [19_786, 19_793, 10_959, 47_478]
 BAD_NUMBERS = [0, 1_000_000]
+OTHER_KEYS = ["anna-key-2", "k" * 8]
 BAD_KEYS = ["short-1", "under_score", "k" * 65]
 BAD_NAMES = [b"", b"Berg, Anna", b'Anna "A"', b"Anna\x7f", b"n" * 65]
 OTHER_BASES = [19_787, 19_792, 10_958, 47_482, 0]
@@ -166,6 +167,11 @@ class Commands:
         """Another base, not always a Monday."""
         return ["base", str(self.one_of(NUMBERS, [1, 16])), date_text(self.one_of(BASES, OTHER_BASES))], b""
 
+    def rekey(self) -> Command:
+        """Another key, which another driver may have, or a text that is none."""
+        key, end = self.one_of([*KEYS, *OTHER_KEYS], BAD_KEYS), self.one_of(["", "\n", "\r\n"], ["\r", "\n\n", " "])
+        return ["key", str(self.one_of(NUMBERS, [1, 16]))], f"{key}{end}".encode()
+
     def download(self) -> Command:
         """A file that is there or not."""
         return ["file", str(self.one_of(NUMBERS, [16])), str(1 + self.chance.randrange(4))], b""
@@ -235,7 +241,7 @@ class Commands:
     def all(self) -> list[Command]:
         """The commands: some drivers first, and then anything."""
         kinds: list[Callable[[], Any]] = [self.import_new] * 7 + [self.enter] * 7 + [self.withdraw] * 4
-        kinds += [self.import_again, self.timeline, self.entries, self.download, self.rebase, self.register]
+        kinds += [self.import_again, self.timeline, self.entries, self.download, self.rebase, self.rekey, self.register]
         commands = self.registrations()
         for command in commands:
             self.office.answer(*command)

@@ -88,6 +88,7 @@ CHANGES: list[Command] = [
     (["enter", "17"], office_rows.MORNING),
     (["withdraw", "17", "1"], b""),
     (["base", "17", "2024-03-11"], b""),
+    (["key", "17"], b"anna-key-2\n"),
 ]
 
 

@@ -113,7 +113,7 @@ class Lines(random_commands.Commands):
     def command(self) -> Command:
         """A command."""
         kinds = [self.import_new] * 4 + [self.enter] * 4 + [self.withdraw] * 3 + [self.weeks] * 2
-        kinds += [self.import_again, self.rebase, self.register]
+        kinds += [self.import_again, self.rebase, self.rekey, self.register]
         return self.chance.choice(kinds)()
 
     def line(self) -> Command:

@@ -35,6 +35,10 @@ DAY_OFF = SIGNED_HEAD + b"2024-03-11 00:00,2024-03-12 00:00,rest,Eva Lund,day of
 NO_AUTHOR = DAY_OFF.replace(b"Eva Lund", b"")
 LONG_NOTE = DAY_OFF.replace(b"day off", 201 * b"n")
 
+# What is no line with a key.
+NO_KEYS = [b"", b"\n", b"\r\n", 7 * b"k", 65 * b"k", b"anna_key_4", b"anna-key-4 ", b" anna-key-4", b"anna-key-4\r", b"anna-key-4\n\n"]
+NO_KEYS += [b"anna-key-4\n\r", b"\xef\xbb\xbfanna-key-4", b"anna-key-4\0", "anna-k\u00ebys".encode(), b"anna-key-4\nbert-key-4\n"]
+
 HEAD = "DATE       DAY   REST  AVAIL   WORK  DRIVE   CREW   NONE\n"
 BREACH = "B1 Art 7 at 2024-03-04 13:00 since 2024-03-04 08:30 amount 240\n"
 EXAMINED = "EXAMINED TO 2024-03-04 17:00 unknown\n"
@@ -214,6 +218,27 @@ ROWS = {
         refused("import both", "S6 contradiction at 2024-03-04 08:00", OTHER_DAY),
         done("register", "registered 18\n", BERT),
         done("breaches 18", "EXAMINED TO 2024-02-05 00:00 unknown\n"),
+    ],
+    "keys": [
+        done("key 17", "key 17\n", b"anna-key-1\n"),
+        done("key 17", "key 17\n", b"anna-key-2"),
+        done("key 17", "key 17\n", b"anna-key-3\r\n"),
+        done("key 17", "key 17\n", 8 * b"k"),
+        done("key 17", "key 17\n", 64 * b"k" + b"\r\n"),
+        *[refused("key 17", "E9 bad value for key", text) for text in NO_KEYS],
+        refused("key 18", "E9 bad value for key", b"anna_key_4"),
+        refused("key 17", "X1 too large", TOO_LARGE),
+        refused("key 18", "X1 too large", TOO_LARGE),
+        *[refused(f"key {number}", "N1 bad number", TOO_LARGE) for number in ["017", "0", "1000000", "+17", ""]],
+        refused("key 18", "S2 key taken", 64 * b"k"),
+        refused("key 18", "S4 unknown driver", b"anna-key-1"),
+        done("register", "registered 18\n", BERT),
+        refused("key 17", "S2 key taken", b"bert-key-1\n"),
+        refused("key 18", "S2 key taken", 64 * b"k" + b"\n"),
+        done("key 18", "key 18\n", b"bert-key-1\n"),
+        done("key 18", "key 18\n", b"anna-key-1\n"),
+        done("key 17", "key 17\n", b"bert-key-1\n"),
+        done("drivers", f"17 {HOLDER} 2024-03-04 0 0 Anna Berg\n18 {HOLDER[:-1]}4 2024-02-05 0 0 Bert\n"),
     ],
     "a second driver": [
         done("import both", "added driver 17 number 1\n", CREW_DAY),

@@ -6,7 +6,7 @@ import tempfile
 from collections.abc import Iterator, Sequence
 from typing import Any
 
-from lib.files import CHECKS
+from lib.files import CHECKS, TOP
 
 Run = subprocess.CompletedProcess[bytes]
 Told = tuple[bytes, int, bytes]  # what a program prints, its status, and what it prints on standard error
@@ -22,6 +22,14 @@ def told_by(words: Sequence[str | bytes], given: bytes = b"", **others: Any) -> 
     """What a program prints for an input, its status, and what it prints on standard error."""
     made = subprocess.run(words, input=given, capture_output=True, **others)
     return made.stdout, made.returncode, made.stderr
+
+
+def version_lines() -> bytes:
+    """What the program prints as its version: that of the file VERSION, the schema of its archives, and the kit's line."""
+    with open(os.path.join(TOP, "VERSION"), encoding="utf-8") as file:
+        version = file.read().strip()
+    kit = subprocess.run(["rt", "version"], capture_output=True, check=True).stdout
+    return f"tacho {version}\nschema 2\n".encode() + kit
 
 
 def unasked(words: Sequence[str]) -> tuple[bytes, int]:

@@ -126,13 +126,20 @@ def received(connection: socket.socket) -> bytes:
 
 
 class Serving:
-    """The program as a server on an archive, for a number of connections, with some more names in its environment."""
+    """The program as a server on an archive, for a number of connections, with some more names in its environment. If it listens, it
+    gets the office's key as its input."""
 
-    def __init__(self, program: str, path: str, key: str, count: int, environment: dict[str, str] | None = None) -> None:
+    def __init__(self, program: str, path: str, key: str, count: int, environment: dict[str, str] | None = None,
+                 listens: bool = False) -> None:
         self.port = free_port()
-        words = [program, "serve", path, key, str(self.port), str(count)]
-        self.process = subprocess.Popen(words, env={**os.environ, **(environment or {})}, stdin=subprocess.DEVNULL, stdout=subprocess.PIPE,
-                                        stderr=subprocess.PIPE)
+        numbers = [str(self.port), str(count)]
+        words = [program, "listen", path, *numbers] if listens else [program, "serve", path, key, *numbers]
+        self.process = subprocess.Popen(words, env={**os.environ, **(environment or {})}, stdout=subprocess.PIPE, stderr=subprocess.PIPE,
+                                        stdin=subprocess.PIPE if listens else subprocess.DEVNULL)
+        if self.process.stdin:
+            self.process.stdin.write(key.encode())
+            self.process.stdin.close()
+            self.process.stdin = None
         self.lost: str | None = None
 
     def __enter__(self) -> "Serving":

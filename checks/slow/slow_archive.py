@@ -173,6 +173,12 @@ class Archive:
         check_monday(base)
         driver.base = base
 
+    def rekey(self, number: int, key: str) -> None:
+        """Sets another key: S2 if another driver has it, S4."""
+        if any(other.key == key and other.number != number for other in self.drivers.values()):
+            raise Refusal("S2")
+        self.driver(number).key = key
+
     def download(self, number: int, download: int) -> bytes:
         """The bytes of a file: S4, S10."""
         downloads = self.driver(number).downloads

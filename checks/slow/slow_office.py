@@ -441,6 +441,14 @@ def line_of(refusal: Refusal) -> str:
     return f"S6 contradiction at {slow_reader.minute_text(int(rest))}" if code == "S6" else f"{code} {FAULTS[code]}"
 
 
+def key_of(given: bytes) -> str:
+    """The key that is the only line of an input: E9."""
+    line = re.fullmatch(rb"([A-Za-z0-9-]{8,64})(\r\n|\n|)", given)
+    if not line:
+        raise slow_reader.Fault("E9 bad value for key")
+    return line[1].decode()
+
+
 def within(given: bytes) -> bytes:
     """An input, if it isn't too large: X1."""
     return slow_reader.within(given, INPUT_LIMIT)
@@ -462,6 +470,7 @@ class Office:
             "enter": lambda: self.enter(given, *others),
             "withdraw": lambda: self.withdraw(*others),
             "base": lambda: self.rebase(*others),
+            "key": lambda: self.rekey(given, *others),
             "spans": lambda: self.spans(*others),
             "gaps": lambda: self.gaps(*others),
             "sheet": lambda: self.sheet(*others),
@@ -525,6 +534,12 @@ class Office:
         driver, day = number_of(number, LAST_DRIVER), day_of(date)
         self.archive.rebase(driver, day)
         return f"base {date}\n"
+
+    def rekey(self, given: bytes, number: str) -> str:
+        """Sets another key: N1, X1, E9, S2, S4."""
+        driver = number_of(number, LAST_DRIVER)
+        self.archive.rekey(driver, key_of(within(given)))
+        return f"key {driver}\n"
 
     def month(self, number: str, month: str) -> tuple[slow_archive.Driver, Month]:
         """A driver and a month: N1, Z1, Z2, Z3, S4."""
