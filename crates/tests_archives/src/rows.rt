@@ -744,7 +744,7 @@ const A_WITHDRAWAL_CHANGES_THE_REPORT: &[Step] = &[
 ];
 
 /// Each row, with its name.
-pub(crate) const ROWS: [(&str, &[Step]); 40] = [
+pub(crate) const ROWS: [(&str, &[Step]); 41] = [
     ("a day is added", A_DAY_IS_ADDED),
     ("empty data are repeated", EMPTY_DATA_ARE_REPEATED),
     (
