@@ -34,7 +34,7 @@ unit=$ROOT/etc/systemd/system/tacho.service
 command() { sed -n "s/^$1=-*//p" "$unit"; }
 case $* in
 "start tacho" | "enable --now tacho")
-    eval "exec $(command ExecStart)" >"$ROOT/journal" 2>&1 <"$ROOT$(command StandardInput | sed 's/^file://')" &
+    eval "exec $(command ExecStart)" >"$ROOT/journal" 2>&1 <"$(command StandardInput | sed 's/^file://')" &
     echo $! >"$ROOT/pid"
     tries=0
     until curl -s -o /dev/null http://127.0.0.1:$PORT/ || [ $((tries += 1)) -gt 200 ]; do sleep 0.05; done
