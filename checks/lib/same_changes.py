@@ -1,0 +1,51 @@
+"""Changes of the slow programs that mean the same as the programs do, with the reasons: the function, the text as it is, and as it is
+changed. No case can notice them."""
+
+KNOWN = "min(run.past, end) - run.start"
+WITHIN = "week_start(week) <= minute < week_start(week + 1)"
+
+# Of slow_rules.py: limits, comparisons, conditions and signs.
+RULES = {
+    # The first and the last rest are longer than any limit, wherever one starts and the other ends.
+    ("rest_runs", "Run(0, FAR)", "Run(1, FAR)"),
+    ("rest_runs", "Run(0, FAR)", "Run(-1, FAR)"),
+    ("rest_runs", "Run(0, line.busy[0])", "Run(1, line.busy[0])"),
+    ("rest_runs", "Run(0, line.busy[0])", "Run(-1, line.busy[0])"),
+    # Between two rest runs there is always a minute.
+    ("is_before", "one.past < other.start", "one.past <= other.start"),
+    # All complete breaks so far are before the run.
+    ("has_first_part", "for done in breaks if is_before(done, run)", "for done in breaks"),
+    # A day begins and ends with a minute that isn't rest.
+    ("is_regular", "day.start <= part.start", "day.start < part.start"),
+    ("is_regular", "part.past <= day.past", "part.past < day.past"),
+    # A daily rest of less than 9 hours isn't reduced, whether it is regular or not.
+    ("is_regular", "portion(day) >= 540 and bool(parts)", "bool(parts)"),
+    ("is_regular", "portion(day) >= 540", "portion(day) >= 539"),
+    # No week before week 0, nor week 0, is asked of.
+    ("is_in_week", f"week >= 0 and {WITHIN}", WITHIN),
+    ("is_in_week", "week >= 0", "week > 0"),
+    ("is_in_week", "week >= 0", "week >= 1"),
+    ("is_in_week", "week >= 0", "week >= -1"),
+    # In the weeks around all is at rest, and they break no rule.
+    ("weeks_around", "week_of(base) - 2", "week_of(base) - 1"),
+    ("weeks_around", "week_of(base) - 2", "week_of(base) - 3"),
+    ("weeks_around", "week_of(past) + 3", "week_of(past) + 2"),
+    ("weeks_around", "week_of(past) + 3", "week_of(past) + 4"),
+    # A rest that is counted in a week after the last serves none of the weeks.
+    ("weeks_touched", "last + 1", "last + 2"),
+    # Two weeks may be judged later, at the latest when no rest is left.
+    ("can_be_counted", "week + 1", "week + 2"),
+    # A minute more or less than none is below any limit too.
+    ("minutes_before", f"max(0, {KNOWN})", f"max(1, {KNOWN})"),
+    ("minutes_before", f"max(0, {KNOWN})", f"max(-1, {KNOWN})"),
+    # The first rest that none after it passes is the one that none before it reaches.
+    ("main_rest", "longer_than_earlier and as_long_as_later", "as_long_as_later"),
+    ("main_rest", "minutes_before(horizon, other) < known", "minutes_before(horizon, other) <= known"),
+    # No rest is longer than itself.
+    ("main_rest", "for other in candidates if run.start < other.start", "for other in candidates"),
+    ("main_rest", "run.start < other.start", "run.start <= other.start"),
+    # Nothing is owed if it is no more than 0.
+    ("owed", "return 0", "return -1"),
+    ("owed", "max(0, 2700 - minutes_of(main))", "max(-1, 2700 - minutes_of(main))"),
+}
+
