@@ -19,7 +19,10 @@ is a path of the adapter's own: a file or a folder in which it may keep the card
 of one driver, whose identification is in the CSV of `register`; an adapter that can't read card files finds the same spans by `card_of`
 below, turned round, or takes them from the lines of the set.
 
-`--leave-out TAG` leaves out the cases that depend on a choice (choices.md); it may be given several times, and so may `--set` and `--case`."""
+`--leave-out TAG` leaves out the cases that depend on a choice (choices.md). It may be given several times, and so may `--set` and
+`--case`."""
+from __future__ import annotations
+
 import argparse
 import datetime
 import json
@@ -31,6 +34,8 @@ import subprocess
 import sys
 import tempfile
 import time
+from collections.abc import Generator, Iterator
+from typing import Any
 
 FOLDER = os.path.dirname(os.path.abspath(__file__))
 SETS = ["words", "chains", "files", "timelines", "stretches", "csv", "http"]
@@ -40,10 +45,17 @@ OFFICE_KEY = "office-key-1"
 HOST = "127.0.0.1"
 SECONDS = 30
 
+Answer = dict[str, Any]  # what is expected of a case
+Given = dict[str, Any]  # what a case gives
+Told = tuple[str, int]  # what a command prints, and its status
+Command = tuple[list[str], bytes]  # arguments without the archive's path, and the input
+Question = Generator[Command, Told, Answer]
+
 
 # Texts of the command line
 
-def minute_of(text):
+
+def minute_of(text: str) -> int:
     """The minute of a text `YYYY-MM-DD HH:MM` or `YYYY-MM-DD`."""
     day, _, clock = text.partition(" ")
     when = datetime.datetime.strptime(day, "%Y-%m-%d") - EPOCH
@@ -51,15 +63,15 @@ def minute_of(text):
     return when.days * 1440 + int(hour) * 60 + int(minute)
 
 
-def minute_text(minute):
+def minute_text(minute: int) -> str:
     """The text of a minute."""
     return (EPOCH + datetime.timedelta(minutes=minute)).strftime("%Y-%m-%d %H:%M")
 
 
-def fault_in(line):
+def fault_in(line: str) -> Answer:
     """A fault as a case has it, from its line."""
     code, _, rest = line.strip().partition(" ")
-    found = {"fault": code}
+    found: Answer = {"fault": code}
     if code == "C14":
         found["minute"] = minute_of(rest[-16:])
     elif code == "C2":
@@ -69,7 +81,7 @@ def fault_in(line):
     return found
 
 
-def spans_in(told, status):
+def spans_in(told: str, status: int) -> Answer:
     """Spans, or a fault, from what `dump` or `card` prints."""
     if status:
         return fault_in(told)
@@ -85,7 +97,7 @@ DEBT = re.compile(r"WEEK (.{10}) owes (\d+) by (.{16}) (?:paid (.{16})|late|open
 HORIZON = re.compile(r"EXAMINED TO (.{16}) (\w+)")
 
 
-def report_in(text):
+def report_in(text: str) -> Answer:
     """A report from the lines of breaches, of what is owed and of the horizon."""
     breaches = [
         {"rule": rule, "article": article, "moment": minute_of(moment), "since": minute_of(since), "amount": int(amount)}
@@ -99,7 +111,7 @@ def report_in(text):
     return {"horizon": minute_of(horizon), "cause": cause, "breaches": breaches, "debts": debts}
 
 
-def stretches_in(breaches, debts):
+def stretches_in(breaches: str, debts: str) -> Answer:
     """Stretches from what `stretches` and `debts` print."""
     found = []
     for one, other in zip(re.split(r"(?m)^FROM ", breaches)[1:], re.split(r"(?m)^FROM ", debts)[1:]):
@@ -116,13 +128,13 @@ ENTRY = re.compile(r'\d+ (.{16}) (.{16}) (\w+) kept "(.*)" "(.*)"')
 LISTED = re.compile(r"(\d+) ([0-9a-f]{30}) (.{10}) \d+ \d+ (.*)")
 
 
-def entries_in(text):
+def entries_in(text: str) -> list[list[Any]]:
     """Entries from what `entries` prints."""
     found = ENTRY.findall(text)
     return [[minute_of(start), minute_of(past), activity, author, note] for start, past, activity, author, note in found]
 
 
-def driver_in(text):
+def driver_in(text: str) -> list[Any]:
     """A driver from what `drivers` prints."""
     number, holder, base, name = LISTED.findall(text)[0]
     return [int(number), holder, minute_of(base), name]
@@ -130,23 +142,24 @@ def driver_in(text):
 
 # What a program is given
 
-def bytes_of(pieces):
+
+def bytes_of(pieces: list[Any]) -> bytes:
     """The bytes of a list of texts, each character a byte, and of repeated bytes."""
     return "".join(piece if isinstance(piece, str) else piece["byte"] * piece["times"] for piece in pieces).encode("latin-1")
 
 
-def holder_of(number):
+def holder_of(number: int) -> bytes:
     """The card's holder of a driver: a state, and fourteen letters and digits."""
     return b"\x0dD" + f"{number:013}".encode()
 
 
-def driver_csv(number, base):
+def driver_csv(number: int, base: int) -> bytes:
     """The CSV of a driver."""
     day = minute_text(base)[:10]
     return f"driver,holder,key,base,name\n{number},{holder_of(number).hex()},key-of-{number:06},{day},Driver {number}\n".encode()
 
 
-def word_of(mark, minute):
+def word_of(mark: str | None, minute: int) -> int:
     """A word of EF Driver_Activity_Data: a mark, or None for what isn't known, from a minute of the day on."""
     if mark is None:
         return 1 << 13 | minute
@@ -154,9 +167,9 @@ def word_of(mark, minute):
     return (1 << 14 if crew else 0) | ACTIVITIES.index(activity) << 11 | minute
 
 
-def words_by_day(spans):
+def words_by_day(spans: list[list[Any]]) -> dict[int, list[int]]:
     """The words of each day on which something is held, from spans."""
-    days = {}
+    days: dict[int, dict[int, str | None]] = {}
     ends = {past for _, past, _ in spans} - {start for start, _, _ in spans}
     for start, past, mark in spans:
         for day in range(start // 1440, (past - 1) // 1440 + 1):
@@ -167,12 +180,12 @@ def words_by_day(spans):
     return {day: [word_of(mark, minute) for minute, mark in sorted(words.items())] for day, words in sorted(days.items())}
 
 
-def record_of(day, words):
+def record_of(day: int, words: list[int]) -> bytes:
     """A daily record."""
     return struct.pack(">HHIHH", 0, 12 + 2 * len(words), 86_400 * day, 0, 0) + struct.pack(f">{len(words)}H", *words)
 
 
-def card_of(number, spans):
+def card_of(number: int, spans: list[list[Any]]) -> bytes:
     """The card file of a driver that gives some spans. A last record without words ends what the record before it gives."""
     days = words_by_day(spans)
     records = [record_of(day, words) for day, words in days.items()] + [record_of(max(days), [])]
@@ -183,12 +196,12 @@ def card_of(number, spans):
 
 # Questions: each yields commands, without the archive's path, is sent what they print and their status, and returns the answer of a case
 
-def ask_value(given, number):
+def ask_value(given: Given, number: int) -> Question:
     """About a value of activity data."""
     return spans_in(*(yield ["dump"], bytes.fromhex(given["value"])))
 
 
-def ask_file(given, number):
+def ask_file(given: Given, number: int) -> Question:
     """About a card file."""
     file = bytes.fromhex(given["file"])
     told, status = yield ["holder"], file
@@ -196,7 +209,7 @@ def ask_file(given, number):
     return {"identification": held, "activity": spans_in(*(yield ["card", given["part"]], file))}
 
 
-def ask_archive(given, number, readings):
+def ask_archive(given: Given, number: int, readings: list[str]) -> Generator[Command, Told, tuple[str, str]]:
     """About a timeline: what two readings print."""
     yield ["register"], driver_csv(number, given["base"])
     if given["spans"]:
@@ -206,18 +219,18 @@ def ask_archive(given, number, readings):
     return one, other
 
 
-def ask_timeline(given, number):
+def ask_timeline(given: Given, number: int) -> Question:
     """About the report on a timeline."""
     breaches, owed = yield from ask_archive(given, number, ["breaches", "owed"])
     return report_in(breaches + owed)
 
 
-def ask_stretches(given, number):
+def ask_stretches(given: Given, number: int) -> Question:
     """About the stretches of a timeline."""
     return stretches_in(*(yield from ask_archive(given, number, ["stretches", "debts"])))
 
 
-def ask_csv(given, number):
+def ask_csv(given: Given, number: int) -> Question:
     """About a text of CSV. A driver is registered in an archive of its own."""
     text = bytes_of(given["csv"])
     if given["of"] == "driver":
@@ -237,19 +250,19 @@ WITHOUT_ARCHIVE = ["dump", "holder", "card"]
 class Program:
     """A program, with an archive in a folder."""
 
-    def __init__(self, words, folder):
+    def __init__(self, words: list[str], folder: str) -> None:
         self.words = words
         self.folder = folder
         self.count = 0
         self.path = ""
         self.renew()
 
-    def renew(self):
+    def renew(self) -> None:
         """Makes another archive."""
         self.count += 1
         self.path = os.path.join(self.folder, f"archive-{self.count}")
 
-    def tell(self, words, given=b""):
+    def tell(self, words: list[str], given: bytes = b"") -> Told:
         """What a command prints, and its status. The archive is made before its first command."""
         if words[0] not in WITHOUT_ARCHIVE:
             if not os.path.exists(self.path) and words[0] != "init":
@@ -258,16 +271,16 @@ class Program:
         run = subprocess.run([*self.words, *words], input=given, stdout=subprocess.PIPE, stderr=subprocess.DEVNULL)
         return run.stdout.decode(errors="backslashreplace"), run.returncode
 
-    def ask(self, question):
+    def ask(self, question: Question) -> Answer:
         """The answer to a question."""
-        told = None
         try:
+            command = next(question)
             while True:
-                told = self.tell(*question.send(told))
+                command = question.send(self.tell(*command))
         except StopIteration as end:
             return end.value
 
-    def serve(self, requests):
+    def serve(self, requests: list[bytes]) -> list[bytes]:
         """The replies to requests, each on its own connection, as bytes."""
         self.renew()
         self.tell(["init"])
@@ -282,7 +295,7 @@ class Program:
             process.wait()
 
 
-def connected(process, port):
+def connected(process: subprocess.Popen[bytes], port: int) -> socket.socket:
     """A connection to a server that may not listen yet."""
     last = time.monotonic() + SECONDS
     while True:
@@ -294,7 +307,7 @@ def connected(process, port):
             time.sleep(0.005)
 
 
-def reply_to(process, port, request):
+def reply_to(process: subprocess.Popen[bytes], port: int, request: bytes) -> bytes:
     """The reply to a request, up to the end of its connection. The server may hang up before it has read all of the request."""
     found = b""
     with connected(process, port) as connection:
@@ -315,13 +328,14 @@ def reply_to(process, port, request):
 
 # Cases
 
-def cases_in(name):
+
+def cases_in(name: str) -> list[dict[str, Any]]:
     """The cases of a set."""
     with open(os.path.join(FOLDER, f"{name}.jsonl"), encoding="ascii") as file:
         return [json.loads(line) for line in file]
 
 
-def answer_of(program, name, number, case):
+def answer_of(program: Program, name: str, number: int, case: dict[str, Any]) -> tuple[Any, Any]:
     """What a program answers to a case, and what is expected."""
     given, expected = case["input"], case["expected"]
     if name == "http":
@@ -332,7 +346,7 @@ def answer_of(program, name, number, case):
     return program.ask(QUESTIONS[name](given, number)), expected
 
 
-def fault_of(program, name, number, case):
+def fault_of(program: Program, name: str, number: int, case: dict[str, Any]) -> str | None:
     """What is wrong with the answer to a case, or None."""
     try:
         told, expected = answer_of(program, name, number, case)
@@ -341,7 +355,7 @@ def fault_of(program, name, number, case):
     return None if told == expected else f"expected {expected}, got {told}"
 
 
-def chosen(arguments):
+def chosen(arguments: argparse.Namespace) -> Iterator[tuple[str, int, dict[str, Any]]]:
     """The cases that are asked for, each with its set and a number."""
     for name in arguments.set or SETS:
         for number, case in enumerate(cases_in(name), 1):
@@ -350,7 +364,7 @@ def chosen(arguments):
                 yield name, number, case
 
 
-def run(arguments):
+def run(arguments: argparse.Namespace) -> int:
     """Tests the program, and returns the status."""
     passed = failed = 0
     with tempfile.TemporaryDirectory() as folder:
@@ -365,7 +379,7 @@ def run(arguments):
     return 0 if passed and not failed else 1
 
 
-def arguments_of(words):
+def arguments_of(words: list[str]) -> argparse.Namespace:
     """The arguments."""
     parser = argparse.ArgumentParser(description="Tests a program with the conformance vectors.")
     parser.add_argument("--set", action="append", choices=SETS, help="a set (all, if none is given)")

@@ -52,7 +52,8 @@ def single_words() -> Iterator[Made]:
 def word_kinds() -> list[tuple[str, int]]:
     """Words of each meaning, from minute 0, with names."""
     found = [(f"{NAMES[activity]} {state}", word(*bits, activity, 0)) for bits, state in STATES.items() for activity in range(4)]
-    return [kind for kind in found if "not known" not in kind[0]] + [("not known", word(1, 0, 0, 0)), ("not known, drive", word(1, 0, 3, 0))]
+    return [kind for kind in found if "not known" not in kind[0]] + [("not known", word(1, 0, 0, 0)),
+                                                                     ("not known, drive", word(1, 0, 3, 0))]
 
 
 def pairs_of_words() -> Iterator[Made]:
@@ -84,7 +85,8 @@ def order_of_words() -> Iterator[Made]:
     for first in (1, 480, 1439):
         for kind, other in (("the same minute", first), ("the next minute", min(first + 1, 1439))):
             value = closed(DAY, [word(0, 0, WORK, first), word(0, 0, DRIVE, other)])
-            yield made("order", WORD, f"a word at minute {first} and one at {kind}, {other}: the later word holds from there", "read", value)
+            yield made("order", WORD, f"a word at minute {first} and one at {kind}, {other}: the later word holds from there", "read",
+                       value)
         value = closed(DAY, [word(0, 0, WORK, first), word(0, 0, DRIVE, first - 1)])
         yield made("order", "C13", f"a word at minute {first} and then one at {first - 1}, a minute before it", "fault C13", value)
     for place in (1, 2, 3):
@@ -245,8 +247,8 @@ def days() -> Iterator[Made]:
     for day, name in ((FIRST_DAY - 1, "2000-01-02"), (FIRST_DAY, "2000-01-03"), (LAST_DAY, "2099-12-31"), (LAST_DAY + 1, "2100-01-01")):
         for second in (0, 1, 86_399):
             inside = FIRST_DAY <= day <= LAST_DAY
-            yield made("days", "record date" if inside else "C11", f"a record of second {second} of {name}", "read" if inside else "fault C11",
-                       activity_data([at_second(day, second, drive)], 0, 0))
+            yield made("days", "record date" if inside else "C11", f"a record of second {second} of {name}",
+                       "read" if inside else "fault C11", activity_data([at_second(day, second, drive)], 0, 0))
     for date in (0, 2**32 - 1):
         one = record(DAY, drive)
         value = activity_data([one[:4] + struct.pack(">I", date) + one[8:]], 0, 0)
@@ -267,8 +269,9 @@ def sequences() -> Iterator[Made]:
     for later, text in ((1, "the next day"), (2, "the day after the next"), (-1, "the day before"), (7, "a week later")):
         for activity in (REST, DRIVE):
             value = activity_data([night, day_of_work(DAY + later, (activity, 0), (WORK, 300)), end], 0, 0)
-            yield made("sequence", CHAIN, f"rest up to midnight, and {NAMES[activity]} from 00:00 of {text}: only neighbours that are equal join",
-                       "read", value)
+            yield made("sequence", CHAIN,
+                       f"rest up to midnight, and {NAMES[activity]} from 00:00 of {text}: only neighbours that are equal join", "read",
+                       value)
     value = activity_data([night, day_of_work(DAY + 1, (REST, 1)), end], 0, 0)
     yield made("sequence", CHAIN, "rest up to midnight and rest from 00:01 of the next day: a minute between isn't known", "read", value)
     value = activity_data([record(DAY, []), record(DAY + 1, []), end], 0, 0)
@@ -299,7 +302,8 @@ def contradictions() -> Iterator[Made]:
     for text, other, claim in others:
         rule = "C14" if claim != "read" else CHAIN
         yield made("contradiction", rule, f"two records of one day {text}", claim, activity_data([one, other, end], 0, 0))
-        yield made("contradiction", rule, f"two records of one day, the other way round, {text}", claim, activity_data([other, one, end], 0, 0))
+        yield made("contradiction", rule, f"two records of one day, the other way round, {text}", claim,
+                   activity_data([other, one, end], 0, 0))
     between = day_of_work(DAY + 1, (DRIVE, 0))
     value = activity_data([day_of_work(DAY + 1, (WORK, 60)), one, between, day_of_work(DAY, (REST, 0), (WORK, 479)), end], 0, 0)
     yield made("contradiction", "C14", "two days contradict themselves, the later one first in the buffer: the least minute is named",
@@ -372,9 +376,11 @@ def generations() -> Iterator[Made]:
     """Files of one generation and of both, by each part."""
     kinds = {"the first generation": [(0, VALUE)], "the second generation": [(2, VALUE)], "both, which agree": [(0, VALUE), (2, VALUE)],
              "both, of different weeks": [(0, VALUE), (2, LATER)], "both, the second one first": [(2, LATER), (0, VALUE)],
-             "both, which contradict one another": [(0, VALUE), (2, OTHER)], "both, of which the first has no records": [(0, bytes(16)), (2, VALUE)]}
+             "both, which contradict one another": [(0, VALUE), (2, OTHER)],
+             "both, of which the first has no records": [(0, bytes(16)), (2, VALUE)]}
     for (name, data), part in itertools.product(kinds.items(), PARTS):
-        blocks = [made_one for kind, value in data for made_one in (identified(kind), active(kind, value), block(ACTIVITY, kind + 1, b"\xff"))]
+        blocks = [made_one for kind,
+                  value in data for made_one in (identified(kind), active(kind, value), block(ACTIVITY, kind + 1, b"\xff"))]
         chosen = [value for kind, value in data if part == "both" or kind == 2 * (part == "second")]
         claim = "fault C6" if not chosen else "fault C14" if "contradict" in name and part == "both" else "read"
         rule = FILE if claim == "read" else claim.removeprefix("fault ")
@@ -383,7 +389,8 @@ def generations() -> Iterator[Made]:
         yield made_file("generations", "C6", f"a file without activity data, part '{part}'", "fault C6", part, identified(0), identified(2))
     yield made_file("generations", FILE, "the identification is of one generation and the activity data of the other", "read", "second",
                     identified(0), active(2))
-    yield made_file("generations", "C6", "the only activity data has the kind 01 of a signature", "fault C6", "both", identified(0), active(1))
+    yield made_file("generations", "C6", "the only activity data has the kind 01 of a signature", "fault C6", "both", identified(0),
+                    active(1))
 
 
 def truncated() -> Iterator[Made]:
@@ -397,13 +404,15 @@ def truncated() -> Iterator[Made]:
                 yield made_file("truncated", "C1", f"the file ends after {more} bytes of the {name}'s block", "fault C1", "both", cut)
         if place:
             claim = "fault C6" if place == 22 else "read"
-            yield made_file("truncated", FILE if claim == "read" else "C6", f"the file ends before the {name}'s block", claim, "both", whole[:place])
+            yield made_file("truncated", FILE if claim == "read" else "C6", f"the file ends before the {name}'s block", claim, "both",
+                            whole[:place])
     yield made_file("truncated", "C1", "the last value lacks its last byte", "fault C1", "both", whole[:-1])
     yield made_file("truncated", "C1", "the first block's length is FFFF", "fault C1", "both", whole[:3] + b"\xff\xff" + whole[5:])
     for length in (0, 1, 300):
-        yield made_file("truncated", FILE, f"a block of {length} bytes that isn't read comes first", "read", "both", block(0x0501, 0, bytes(length)),
-                        whole)
-    yield made_file("truncated", "C1", "a truncated block after the same data twice: C1 comes before C2", "fault C1", "both", whole, whole[:-1])
+        yield made_file("truncated", FILE, f"a block of {length} bytes that isn't read comes first", "read", "both",
+                        block(0x0501, 0, bytes(length)), whole)
+    yield made_file("truncated", "C1", "a truncated block after the same data twice: C1 comes before C2", "fault C1", "both", whole,
+                    whole[:-1])
 
 
 def repeated() -> Iterator[Made]:
@@ -414,14 +423,15 @@ def repeated() -> Iterator[Made]:
         blocks = [identified(0), active(0)] + [maker(kind)] * (1 if kind == 0 else 2)
         yield made_file("repeated", "C2" if is_read else FILE, f"block {identifier:04x} {kind:02x} is there twice"
                         + ("" if is_read else ", and isn't read"), "fault C2" if is_read else "read", "both", *blocks)
-    yield made_file("repeated", FILE, "blocks of another elementary file with the kinds 00 and 02 repeat", "read", "both", identified(0), active(0),
-                    *[block(0x0524, kind, b"\x01") for kind in (0, 0, 2, 2)])
+    yield made_file("repeated", FILE, "blocks of another elementary file with the kinds 00 and 02 repeat", "read", "both", identified(0),
+                    active(0), *[block(0x0524, kind, b"\x01") for kind in (0, 0, 2, 2)])
     for order in (["a", "i"], ["i", "a"]):
         again = [active(0) if letter == "a" else identified(0) for letter in order]
-        yield made_file("repeated", "C2", "both blocks are there twice: the first that repeats is named", "fault C2", "both", identified(0), active(0), *again)
+        yield made_file("repeated", "C2", "both blocks are there twice: the first that repeats is named", "fault C2", "both", identified(0),
+                        active(0), *again)
     yield made_file("repeated", "C2", "a block comes twice in a file without an identification", "fault C2", "both", active(0), active(0))
-    yield made_file("repeated", "C2", "two identifications of a kind name two holders: C2 comes before C5", "fault C2", "both", identified(0),
-                    identified(0, b"\x0dD1234567890124"), active(0))
+    yield made_file("repeated", "C2", "two identifications of a kind name two holders: C2 comes before C5", "fault C2", "both",
+                    identified(0), identified(0, b"\x0dD1234567890124"), active(0))
 
 
 def holders() -> Iterator[Made]:
@@ -434,22 +444,23 @@ def holders() -> Iterator[Made]:
         for kind in (0, 2):
             value = (HOLDER + b"00" + bytes(9))[:length]
             others = [] if kind == 0 else [identified(0)]
-            yield made_file("holder", FILE if claim == "read" else "C4", f"the identification of kind {kind:02} has {length} bytes, and needs 17", claim,
-                            "both", *others, block(IDENTIFICATION, kind, value), active(0))
+            yield made_file("holder", FILE if claim == "read" else "C4",
+                            f"the identification of kind {kind:02} has {length} bytes, and needs 17", claim, "both", *others,
+                            block(IDENTIFICATION, kind, value), active(0))
     for place in range(17):
         other = bytearray(HOLDER + b"00")
         other[place] ^= 1
         claim = "fault C5" if place < 15 else "read"
         text = "which is part of the holder" if place < 15 else "an index of replacement or renewal, which isn't"
-        yield made_file("holder", "C5" if place < 15 else FILE, f"the two generations differ in byte {place} of the card number, {text}", claim, "both",
-                        identified(0), block(IDENTIFICATION, 2, bytes(other)), active(0))
-    yield made_file("holder", "C4", "an identification is too short, and the two name different holders: C4 comes before C5", "fault C4", "both",
-                    identified(0), block(IDENTIFICATION, 2, b"\x0eD1234567890123"), active(0))
+        yield made_file("holder", "C5" if place < 15 else FILE, f"the two generations differ in byte {place} of the card number, {text}",
+                        claim, "both", identified(0), block(IDENTIFICATION, 2, bytes(other)), active(0))
+    yield made_file("holder", "C4", "an identification is too short, and the two name different holders: C4 comes before C5", "fault C4",
+                    "both", identified(0), block(IDENTIFICATION, 2, b"\x0eD1234567890123"), active(0))
     yield made_file("holder", "C5", "two cards and no activity data: C5 comes before C6", "fault C5", "both", identified(0),
                     identified(2, b"\x0eD1234567890123"))
     for part in PARTS:
-        yield made_file("holder", FILE, f"the holder is the same for each part, as for '{part}'", "read", part, identified(0, indices=b"12"), active(0),
-                        identified(2, indices=b"21", more=9), active(2))
+        yield made_file("holder", FILE, f"the holder is the same for each part, as for '{part}'", "read", part,
+                        identified(0, indices=b"12"), active(0), identified(2, indices=b"21", more=9), active(2))
 
 
 def faults_by_generation() -> Iterator[Made]:
@@ -468,11 +479,13 @@ def faults_by_generation() -> Iterator[Made]:
             is_chosen = part == "both" or (kind == 2) == (part == "second")
             data = {0: VALUE, 2: VALUE, kind: value}
             which = "first" if kind == 0 else "second"
-            yield made_file("activity", code if is_chosen else FILE, f"{code} is in the data of the {which} generation, and the part '{part}' is read",
+            yield made_file("activity", code if is_chosen else FILE,
+                            f"{code} is in the data of the {which} generation, and the part '{part}' is read",
                             f"fault {code}" if is_chosen else "read", part, identified(0), active(0, data[0]), active(2, data[2]))
     for one, other in itertools.permutations(bad, 2):
         first = one if one in ("C7", "C8") or other not in ("C7", "C8") else other
-        yield made_file("activity", first, f"the first generation has {one} and the second {other}: C7 and C8 of both come before the records",
+        yield made_file("activity", first,
+                        f"the first generation has {one} and the second {other}: C7 and C8 of both come before the records",
                         f"fault {first}", "both", identified(0), active(0, bad[one]), active(2, bad[other]))
 
 

@@ -13,7 +13,8 @@ BASE = 28_491_840  # Monday, 2024-03-04
 DAY, WEEK = 1440, 10_080
 MARKS = {"r": "rest", "a": "available", "w": "work", "d": "drive"}
 ENDINGS = {
-    "breach": "this is a breach", "no breach": "this is no breach", "paid": "a later rest pays the debt", "not paid": "nothing pays the debt",
+    "breach": "this is a breach", "no breach": "this is no breach", "paid": "a later rest pays the debt",
+    "not paid": "nothing pays the debt",
     "no debt": "nothing is owed", "unknown": "the examination ends there, since the minute isn't held",
     "crew": "the examination ends there, since there is a second driver", "": "",
 }
@@ -34,6 +35,11 @@ def spans_of(text: str, base: int) -> list[list[object]]:
 def length_of(text: str) -> int:
     """The minutes of some tokens."""
     return sum(int(count) for count in re.findall(r"\d+", text))
+
+
+def minutes_text(count: int) -> str:
+    """A number of minutes in words."""
+    return "1 minute" if count == 1 else f"{count} minutes"
 
 
 def given_of(text: str, base: int = BASE) -> Given:
@@ -79,13 +85,15 @@ def break_shapes() -> Iterator[tuple[str, str, bool]]:
         yield (f"271 minutes of driving with breaks of {first} and then {second} minutes, where 15 and then 30 are needed",
                f"d90 r{first} d90 r{second} d91", first < 15 or second < 30)
     for first, second in ((30, 14), (30, 15), (30, 29), (44, 15), (44, 29), (29, 29)):
-        yield f"271 minutes of driving with breaks of {first} and then {second} minutes, the second shorter than 30", f"d90 r{first} d90 r{second} d91", True
+        yield (f"271 minutes of driving with breaks of {first} and then {second} minutes, the second shorter than 30",
+               f"d90 r{first} d90 r{second} d91", True)
     for first, second in ((30, 30), (29, 30), (44, 30), (15, 44)):
         yield f"271 minutes of driving with breaks of {first} and then {second} minutes, of which the first may be longer than 15", \
             f"d90 r{first} d90 r{second} d91", False
     for activity, name in (("w", "work"), ("a", "availability"), ("d", "driving")):
         minutes = 135 if activity != "d" else 134
-        yield f"a break of 22 and 23 minutes with a minute of {name} between, in 271 minutes of driving", f"d{minutes} r22 {activity}1 r23 d136", True
+        yield (f"a break of 22 and 23 minutes with a minute of {name} between, in 271 minutes of driving",
+               f"d{minutes} r22 {activity}1 r23 d136", True)
         yield f"a break of 44 minutes and one of 1 with a minute of {name} between", f"d{minutes} r44 {activity}1 r1 d136", True
     yield "271 minutes of driving with 45 minutes of availability between, which isn't a break", "d135 a45 d136", True
     yield "271 minutes of driving with 45 minutes of other work between", "d135 w45 d136", True
@@ -173,7 +181,8 @@ def reduced_rests() -> Iterator[Made]:
     for count in range(2, 8):
         for place, before in STARTS.items():
             text = before + " ".join([REDUCED] * count) + " w60 r700"
-            yield made("B3", "B3", f"{count} reduced rests since the last weekly rest, {place}, where three are allowed", judged(count > 3), text)
+            yield made("B3", "B3", f"{count} reduced rests since the last weekly rest, {place}, where three are allowed", judged(count > 3),
+                       text)
     for length, rest in itertools.product((779, 780, 781, 899, 900, 901), (540, 541, 659, 660, 661, 1439, 1440)):
         part = portion(length, rest)
         text = "r360 " + " ".join([REDUCED] * 3) + f" w{length} r{rest} w60 r700"
@@ -185,7 +194,8 @@ def split_rests() -> Iterator[Made]:
     """B3 by the first part of a rest that is taken in two."""
     for part, length, rest in itertools.product((179, 180, 181), (899, 900, 901), (540, 541)):
         text = "r360 " + " ".join([REDUCED] * 3) + f" w300 r{part} w{length - 300 - part} r{rest} w60 r700"
-        what = f"three reduced rests, and one of {rest} after a day of {length} minutes with a rest of {part} in it, where 180 make it regular"
+        what = (f"three reduced rests, and one of {rest} after a day of {length} minutes with a rest of {part} in it, where 180 "
+                f"make it regular")
         yield made("B3", "B3", what, judged(part < 180 and length <= 900), text)
     for first, second in ((90, 90), (179, 179), (1, 180), (180, 1)):
         text = "r360 " + " ".join([REDUCED] * 3) + f" w200 r{first} w100 r{second} w{600 - first - second} r540 w60 r700"
@@ -195,7 +205,8 @@ def split_rests() -> Iterator[Made]:
         text = "r360 " + " ".join([REDUCED] * 3) + f" {day} r540 w60 r700"
         yield made("B3", "B3", f"three reduced rests, and a day with a rest of 180 minutes {where}", "no breach", text)
     text = "r360 " + " ".join([REDUCED] * 2 + ["w300 r180 w420 r540"] + [REDUCED] * 2) + " w60 r700"
-    yield made("B3", "B3", "two reduced rests, one in two parts, and two reduced ones: a part of 180 helps its own day alone", "breach", text)
+    yield made("B3", "B3", "two reduced rests, one in two parts, and two reduced ones: a part of 180 helps its own day alone", "breach",
+               text)
 
 
 def counted_rests() -> Iterator[Made]:
@@ -209,7 +220,8 @@ def counted_rests() -> Iterator[Made]:
         yield made("B3", "B3", f"four reduced rests, a rest of {rest} minutes, and four more", "breach", text)
     for pattern in itertools.product((True, False), repeat=4):
         rests = " ".join(REDUCED if is_reduced else REGULAR for is_reduced in pattern)
-        what = "reduced rests and, for each 0, regular ones: " + "".join("1" if is_reduced else "0" for is_reduced in pattern) + ", and then two reduced"
+        digits = "".join("1" if is_reduced else "0" for is_reduced in pattern)
+        what = f"reduced rests and, for each 0, regular ones: {digits}, and then two reduced"
         yield made("B3", "B3", what, judged(sum(pattern) > 1), f"r360 {rests} {REDUCED} {REDUCED} w60 r700")
     for known in (0, 1, 539, 540, 1439):
         text = "r360 " + " ".join([REDUCED] * 3) + f" w900 r{known}"
@@ -244,7 +256,8 @@ def daily_driving() -> Iterator[Made]:
         what = f"two days of {total} minutes of driving"
         day = f"d270 r45 d270 r45 d{total - 540} r660 "
         yield made("B4", "B4", what, judged(total > 600), f"r360 {day}{day}w60 r700")
-    yield made("B4", "B4", "ten hours on each side of a night's rest", "no breach", "r360 d270 r45 d270 r45 d60 r540 d270 r45 d270 r45 d60 r700")
+    yield made("B4", "B4", "ten hours on each side of a night's rest", "no breach",
+               "r360 d270 r45 d270 r45 d60 r540 d270 r45 d270 r45 d60 r700")
 
 
 def day_driven(minutes: int) -> str:
@@ -276,10 +289,11 @@ def extended_days_at_week_ends() -> Iterator[Made]:
     sunday = 6 * DAY
     for start in (-2, -1, 0, 1):
         before = f"r{sunday + DAY + start - 2 * DAY} " + day_driven(541) * 2
-        where = f"{abs(start)} minutes before Monday 00:00" if start < 0 else f"{start} minutes after it" if start else "on Monday at 00:00"
+        where = f"{minutes_text(abs(start))} {'before' if start < 0 else 'after'} Monday 00:00" if start else "on Monday at 00:00"
         yield made("B5", "B5", f"two extended days, and a third that starts {where}, where a day belongs to the week in which it starts",
                    judged(start < 0), before + day_driven(541) + "w60 r700")
-        yield made("B5", "B5", f"an extended day, a short one, and a day and another after it, of which the first starts {where}", "no breach",
+        yield made("B5", "B5", f"an extended day, a short one, and a day and another after it, of which the first starts {where}",
+                   "no breach",
                    f"r{sunday + DAY + start - 2 * DAY} " + day_driven(541) + day_driven(540) + day_driven(541) * 2 + "w60 r700")
         yield made("B5", "B5", f"one extended day, then three of which the first starts {where}", judged(start >= 0),
                    f"r{sunday + start} " + day_driven(541) * 4 + "w60 r700")
@@ -331,13 +345,14 @@ def two_weeks_driving() -> Iterator[Made]:
             what = f"{first} minutes of driving in a week and {second} in the next, together {5400 + more}, where 5,400 are allowed"
             yield made("B7", "B7", what, judged(more > 0), text)
     for more in (-1, 0, 1, 2):
-        yield made("B7", "B7", f"{5400 + more} minutes of driving in the base's week: it forms a pair with the week before too", judged(more > 0),
-                   f"d{5400 + more} r60")
+        yield made("B7", "B7", f"{5400 + more} minutes of driving in the base's week: it forms a pair with the week before too",
+                   judged(more > 0), f"d{5400 + more} r60")
         text = f"r{WEEK - 2700} d{5400 + more} r60"
         yield made("B7", "B7", f"{5400 + more} minutes of driving in one go over the end of a week", judged(more > 0), text)
         text = f"r{WEEK} r360 d{5400 + more} r60"
         yield made("B7", "B7", f"{5400 + more} minutes of driving in the second week, after one of rest", judged(more > 0), text)
-    for first, second, third in ((1800, 3600, 1800), (1801, 3600, 1800), (1800, 3600, 1801), (1800, 3601, 1800), (3000, 2000, 3000), (2700, 0, 2701)):
+    for first, second, third in ((1800, 3600, 1800), (1801, 3600, 1800), (1800, 3600, 1801), (1800, 3601, 1800), (3000, 2000, 3000),
+                                 (2700, 0, 2701)):
         text = f"d{first} r{WEEK - first} d{second} r{WEEK - second} d{third} r60"
         what = f"{first}, {second} and {third} minutes of driving in three weeks: each two neighbours are a pair"
         yield made("B7", "B7", what, judged(first + second > 5400 or second + third > 5400), text)
@@ -355,13 +370,14 @@ def six_days() -> Iterator[Made]:
     for more, rest in itertools.product((-1, 0, 1, 2), (1439, 1440, 1441, 2700)):
         text = f"r360 {FIVE_DAYS}w60 r600 w{780 + more} r{rest} w60 r600"
         is_breach = more > 0 if rest >= 1440 else True
-        what = f"a rest of {rest} minutes that starts {8640 + more} minutes after the last weekly rest, where one of 1,440 has to start within 8,640"
+        what = (f"a rest of {rest} minutes that starts {8640 + more} minutes after the last weekly rest, where one of 1,440 has "
+                f"to start within 8,640")
         yield made("B8", "B8", what, judged(is_breach), text)
     for more, (place, before) in itertools.product((-1, 0, 1, 2), STARTS.items()):
         for known in ("", " r1", " r1440"):
             text = f"{before}{FIVE_DAYS}w60 r600 w{780 + more}{known}"
-            held = known.strip().removeprefix("r") or "0"
-            what = f"work up to {8640 + more} minutes after the first rest, {place}, and {held} minutes of the last rest"
+            held = minutes_text(int(known.strip().removeprefix("r") or 0))
+            what = f"work up to {8640 + more} minutes after the first rest, {place}, and {held} of the last rest"
             yield made("B8", "B8", what, judged(more > 0), text)
     for rest in (1439, 1440, 1441):
         text = f"r360 w60 r1380 w60 r1380 w60 r{rest} {FIVE_DAYS}w60 r600"
@@ -374,11 +390,12 @@ def six_days() -> Iterator[Made]:
     for more in (0, 1):
         text = f"r360 {FIVE_DAYS}w60 r600 w{780 + more} r1440 {FIVE_DAYS}w60 r600 w{780 + more} r1440 w60 r600"
         yield made("B8", "B8", f"two times {8640 + more} minutes between weekly rests", judged(more > 0), text)
-    yield made("B8", "B8", "availability in the place of work up to 8,641 minutes", "breach", f"r360 {FIVE_DAYS}w60 r600 a781 r1440 w60 r600")
+    yield made("B8", "B8", "availability in the place of work up to 8,641 minutes", "breach",
+               f"r360 {FIVE_DAYS}w60 r600 a781 r1440 w60 r600")
 
 
 def timelines() -> list[Made]:
     """All cases of B1 to B8."""
-    makers = [breaks, short_rests, long_days, reduced_rests, split_rests, counted_rests, daily_driving, extended_days, extended_days_at_week_ends,
-              weekly_driving, two_weeks_driving, six_days]
+    makers = [breaks, short_rests, long_days, reduced_rests, split_rests, counted_rests, daily_driving, extended_days,
+              extended_days_at_week_ends, weekly_driving, two_weeks_driving, six_days]
     return [one for maker in makers for one in maker()]

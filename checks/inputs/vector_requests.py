@@ -35,16 +35,31 @@ def padded(length: int, end: bytes = b"\r\n\r\n") -> bytes:
 def heads() -> Iterator[Made]:
     """Heads that are one, and that aren't."""
     rows = [
-        (200, "a whole request by a driver", OWN), (200, "empty lines before the head", b"\r\n\n\r\n" + OWN), (200, "another request after it has no effect", OWN + OWN),
-        (200, "lines that end in LF", OWN.replace(b"\r", b"")), (200, "the version HTTP/1.0", OWN.replace(b"1.1", b"1.0")), (400, "the version HTTP/1.2", OWN.replace(b"1.1", b"1.2")),
-        (400, "the version HTTP/2", b"GET /me/breaches HTTP/2\r\n\r\n"), (200, "a field's name in capitals", OWN.replace(b"x-key", b"X-KEY")), (405, "a method in small letters", OWN.replace(b"GET", b"get")),
-        (200, "no blank before a value", OWN.replace(b"x-key: ", b"x-key:")), (200, "blanks and tabs around a value", OWN.replace(b"x-key: anna-key-1", b"x-key:\t anna-key-1 \t ")),
-        (400, "a blank before a colon", OWN.replace(b"x-key:", b"x-key :")), (400, "a blank before a name", OWN.replace(b"x-key:", b" x-key:")), (400, "a field without a name", OWN.replace(b"x-key:", b":")),
-        (400, "a field without a colon", OWN.replace(b"x-key:", b"x-key")), (400, "two blanks in the first line", OWN.replace(b"GET ", b"GET  ")), (400, "a blank before the first line", b" " + OWN),
-        (400, "a CR without a LF", OWN.replace(b"1\r\n\r\n", b"1\r\r\n")), (400, "byte 0 in a value", OWN.replace(b"anna", b"an\0a")), (400, "byte 127 in a value", OWN.replace(b"anna", b"an\x7fa")),
-        (403, "byte 255 in the key, which is then another one", OWN.replace(b"anna", b"an\xffa")), (400, "byte 255 in a name", OWN.replace(b"x-key", b"x-ke\xff")),
-        (400, "a path that isn't UTF-8", OWN.replace(b"breaches", b"breaches\xff")), (404, "a path of another alphabet", OWN.replace(b"breaches", "\u043f\u0440\u043e\u0431\u0435\u0433".encode())),
-        (400, "no path", OWN.replace(b"/me/breaches ", b"")), (400, "a text that isn't HTTP", b"EHLO localhost\r\n"), (400, "no byte at all", b""),
+        (200, "a whole request by a driver", OWN), (200, "empty lines before the head", b"\r\n\n\r\n" + OWN),
+        (200, "another request after it has no effect", OWN + OWN),
+        (200, "lines that end in LF", OWN.replace(b"\r", b"")),
+        (200, "the version HTTP/1.0", OWN.replace(b"1.1", b"1.0")),
+        (400, "the version HTTP/1.2", OWN.replace(b"1.1", b"1.2")),
+        (400, "the version HTTP/2", b"GET /me/breaches HTTP/2\r\n\r\n"),
+        (200, "a field's name in capitals", OWN.replace(b"x-key", b"X-KEY")),
+        (405, "a method in small letters", OWN.replace(b"GET", b"get")),
+        (200, "no blank before a value", OWN.replace(b"x-key: ", b"x-key:")),
+        (200, "blanks and tabs around a value", OWN.replace(b"x-key: anna-key-1", b"x-key:\t anna-key-1 \t ")),
+        (400, "a blank before a colon", OWN.replace(b"x-key:", b"x-key :")),
+        (400, "a blank before a name", OWN.replace(b"x-key:", b" x-key:")),
+        (400, "a field without a name", OWN.replace(b"x-key:", b":")),
+        (400, "a field without a colon", OWN.replace(b"x-key:", b"x-key")),
+        (400, "two blanks in the first line", OWN.replace(b"GET ", b"GET  ")),
+        (400, "a blank before the first line", b" " + OWN),
+        (400, "a CR without a LF", OWN.replace(b"1\r\n\r\n", b"1\r\r\n")),
+        (400, "byte 0 in a value", OWN.replace(b"anna", b"an\0a")),
+        (400, "byte 127 in a value", OWN.replace(b"anna", b"an\x7fa")),
+        (403, "byte 255 in the key, which is then another one", OWN.replace(b"anna", b"an\xffa")),
+        (400, "byte 255 in a name", OWN.replace(b"x-key", b"x-ke\xff")),
+        (400, "a path that isn't UTF-8", OWN.replace(b"breaches", b"breaches\xff")),
+        (404, "a path of another alphabet", OWN.replace(b"breaches", "\u043f\u0440\u043e\u0431\u0435\u0433".encode())),
+        (400, "no path", OWN.replace(b"/me/breaches ", b"")), (400, "a text that isn't HTTP", b"EHLO localhost\r\n"),
+        (400, "no byte at all", b""),
     ]
     for status, what, request in rows:
         yield made("head", status, what, [*WITH_DAY, request])
@@ -55,11 +70,17 @@ def heads() -> Iterator[Made]:
 def limits() -> Iterator[Made]:
     """Heads of 8,192 bytes and of 32 fields, and a byte or a field more."""
     rows = [
-        (200, "a head of 8,192 bytes", padded(8_192)), (431, "a head of 8,193 bytes", padded(8_193)), (431, "8,192 bytes of a value without an end", padded(8_192, b"")),
-        (400, "8,191 bytes of a value without an end", padded(8_191, b"")), (400, "byte 0 in byte 8,192", padded(8_192, b"\0")), (431, "byte 0 in byte 8,193", padded(8_193, b"\0")),
-        (431, "8,192 bytes of empty lines", 4_096 * b"\r\n"), (200, "8,000 bytes of empty lines before a head", 4_000 * b"\r\n" + OWN), (431, "8,192 bytes of a path", b"GET /" + 8_187 * b"a"),
-        (400, "8,191 bytes of a path", b"GET /" + 8_186 * b"a"), (200, "32 fields", fields(32) + b"\r\n"), (431, "33 fields", fields(33) + b"\r\n"), (431, "34 fields and more bytes", fields(34) + b"\r\n\0"),
-        (400, "32 fields without an end", fields(32)), (400, "32 fields and a wrong byte", fields(32) + b"\0"), (400, "the 33rd field is cut", fields(32) + b"a: b"),
+        (200, "a head of 8,192 bytes", padded(8_192)), (431, "a head of 8,193 bytes", padded(8_193)),
+        (431, "8,192 bytes of a value without an end", padded(8_192, b"")),
+        (400, "8,191 bytes of a value without an end", padded(8_191, b"")),
+        (400, "byte 0 in byte 8,192", padded(8_192, b"\0")), (431, "byte 0 in byte 8,193", padded(8_193, b"\0")),
+        (431, "8,192 bytes of empty lines", 4_096 * b"\r\n"),
+        (200, "8,000 bytes of empty lines before a head", 4_000 * b"\r\n" + OWN),
+        (431, "8,192 bytes of a path", b"GET /" + 8_187 * b"a"),
+        (400, "8,191 bytes of a path", b"GET /" + 8_186 * b"a"), (200, "32 fields", fields(32) + b"\r\n"),
+        (431, "33 fields", fields(33) + b"\r\n"), (431, "34 fields and more bytes", fields(34) + b"\r\n\0"),
+        (400, "32 fields without an end", fields(32)), (400, "32 fields and a wrong byte", fields(32) + b"\0"),
+        (400, "the 33rd field is cut", fields(32) + b"a: b"),
     ]
     for status, what, request in rows:
         yield made("limit", status, what, [*WITH_DAY, request])
@@ -69,12 +90,20 @@ def keys() -> Iterator[Made]:
     """Who asks."""
     path = "GET /drivers/17/owed"
     rows = [
-        (200, "the office's key", asking(path, OFFICE)), (200, "the driver's key", asking("GET /me/owed", DRIVER)), (403, "no key", asking(path, None)), (403, "no key, for a path that isn't there", asking("GET /nothing", None)),
-        (403, "no key, with a method that isn't there", asking("BREW /", None)), (403, "the driver's key twice", asking("GET /me/owed", DRIVER, f"x-key: {DRIVER}")),
-        (403, "the office's key and the driver's", asking(path, OFFICE, f"x-key: {DRIVER}")), (403, "the office's key twice, once in capitals", asking(path, OFFICE, f"X-KEY: {OFFICE}")),
-        (403, "a key in another field", asking(path, None, f"x_key: {OFFICE}")), (403, "a key in quotes", asking(path, f'"{OFFICE}"')), (403, "a key in capitals", asking(path, OFFICE.upper())),
-        (403, "a key with a digit more", asking(path, f"{OFFICE}1")), (403, "a key with a digit less", asking(path, OFFICE[:-1])), (403, "two keys in one value", asking(path, f"{OFFICE},{DRIVER}")), (403, "an empty key", asking(path, "")),
-        (403, "a driver's key for an office's path", asking(path, DRIVER)), (403, "the office's key for a driver's path", asking("GET /me/owed", OFFICE)), (403, "an unknown driver's key", asking("GET /me/owed", "anna-key-2")),
+        (200, "the office's key", asking(path, OFFICE)), (200, "the driver's key", asking("GET /me/owed", DRIVER)),
+        (403, "no key", asking(path, None)), (403, "no key, for a path that isn't there", asking("GET /nothing", None)),
+        (403, "no key, with a method that isn't there", asking("BREW /", None)),
+        (403, "the driver's key twice", asking("GET /me/owed", DRIVER, f"x-key: {DRIVER}")),
+        (403, "the office's key and the driver's", asking(path, OFFICE, f"x-key: {DRIVER}")),
+        (403, "the office's key twice, once in capitals", asking(path, OFFICE, f"X-KEY: {OFFICE}")),
+        (403, "a key in another field", asking(path, None, f"x_key: {OFFICE}")),
+        (403, "a key in quotes", asking(path, f'"{OFFICE}"')), (403, "a key in capitals", asking(path, OFFICE.upper())),
+        (403, "a key with a digit more", asking(path, f"{OFFICE}1")),
+        (403, "a key with a digit less", asking(path, OFFICE[:-1])),
+        (403, "two keys in one value", asking(path, f"{OFFICE},{DRIVER}")), (403, "an empty key", asking(path, "")),
+        (403, "a driver's key for an office's path", asking(path, DRIVER)),
+        (403, "the office's key for a driver's path", asking("GET /me/owed", OFFICE)),
+        (403, "an unknown driver's key", asking("GET /me/owed", "anna-key-2")),
         (200, "another field beside the key", asking(path, OFFICE, f"x-key2: {DRIVER}")),
     ]
     for status, what, request in rows:
@@ -85,15 +114,21 @@ def keys() -> Iterator[Made]:
 
 def paths() -> Iterator[Made]:
     """Paths, methods and rights."""
-    for path in ("/", "*", "/me", "/drivers/", "/drivers/17", "//drivers", "/drivers//breaches", "/drivers/17/sheet/", "/drivers/17/breaches/", "/drivers/17/breaches?all", "/drivers/17/Breaches",
-                 "http://127.0.0.1/drivers/17/breaches", "/drivers/17/sheet/2024/03", "/cards/both/both", "/nothing"):
+    for path in ("/", "*", "/me", "/drivers/", "/drivers/17", "//drivers", "/drivers//breaches", "/drivers/17/sheet/",
+                 "/drivers/17/breaches/", "/drivers/17/breaches?all", "/drivers/17/Breaches", "http://127.0.0.1/drivers/17/breaches",
+                 "/drivers/17/sheet/2024/03", "/cards/both/both", "/nothing"):
         yield made("path", 404, f"the path '{path}' isn't one", [ADD_ANNA, asking(f"GET {path}", OFFICE)])
     for method, path, key in (
-        ("DELETE", "/drivers", OFFICE), ("GET", "/drivers", OFFICE), ("PUT", "/cards/both", OFFICE), ("HEAD", "/me/owed", DRIVER), ("POST", "/me/owed", DRIVER), ("POST", "/me/entries", DRIVER), ("GET", "/me/cards/both", DRIVER),
-        ("GET", "/drivers/17/withdraw/1", OFFICE), ("GET", "/drivers/17/base/2024-03-04", OFFICE), ("POST", "/drivers/17/spans/2024-03", OFFICE), ("OPTIONS", "/drivers/17/entries", OFFICE), ("DELETE", "/drivers", DRIVER),
+        ("DELETE", "/drivers", OFFICE), ("GET", "/drivers", OFFICE), ("PUT", "/cards/both", OFFICE),
+        ("HEAD", "/me/owed", DRIVER), ("POST", "/me/owed", DRIVER), ("POST", "/me/entries", DRIVER),
+        ("GET", "/me/cards/both", DRIVER),
+        ("GET", "/drivers/17/withdraw/1", OFFICE), ("GET", "/drivers/17/base/2024-03-04", OFFICE),
+        ("POST", "/drivers/17/spans/2024-03", OFFICE), ("OPTIONS", "/drivers/17/entries", OFFICE),
+        ("DELETE", "/drivers", DRIVER),
     ):
         yield made("path", 405, f"the path '{path}' hasn't the method {method}", [ADD_ANNA, asking(f"{method} {path}", key)])
-    for path, body in (("/cards/both", DAY), ("/drivers/17/entries", FREE_DAYS), ("/drivers", BERT), ("/drivers/17/withdraw/1", b""), ("/drivers/17/base/2024-03-04", b"")):
+    for path, body in (("/cards/both", DAY), ("/drivers/17/entries", FREE_DAYS), ("/drivers", BERT), ("/drivers/17/withdraw/1", b""),
+                       ("/drivers/17/base/2024-03-04", b"")):
         yield made("path", 403, f"a driver may not POST to '{path}'", [ADD_ANNA, posting(path, DRIVER, body)])
     yield made("path", 403, "the office may not POST to '/me/cards/both'", [ADD_ANNA, posting("/me/cards/both", OFFICE, DAY)])
     for path in ("/me/withdraw/1", "/me/base/2024-03-11"):
@@ -104,17 +139,32 @@ def bodies() -> Iterator[Made]:
     """Lengths of a body, and bodies."""
     drivers = "POST /drivers"
     rows = [
-        (400, "a transfer-encoding", asking(drivers, OFFICE, "transfer-encoding: chunked")), (400, "an empty transfer-encoding comes before a length that is too large", asking(drivers, OFFICE, "Transfer-Encoding:", f"{LENGTH}262145")),
-        (400, "a transfer-encoding where no body is expected", posting("/drivers/17/withdraw/1", OFFICE, b"", "transfer-encoding: identity")), (200, "a GET with a transfer-encoding", asking("GET /me/entries", DRIVER, "transfer-encoding: chunked")),
-        (200, "a GET with wrong lengths", asking("GET /me/entries", DRIVER, f"{LENGTH}many", f"{LENGTH}262145")), (411, "a body without a length", asking("POST /drivers/17/entries", OFFICE, body=FREE_DAYS)),
-        (400, "two lengths", asking(drivers, OFFICE, f"{LENGTH}262145", f"{LENGTH}262145")), (400, "the right length twice", posting("/drivers", OFFICE, BERT, f"{LENGTH}{len(BERT)}")),
-        (413, "a length of 262,145", asking(drivers, OFFICE, f"{LENGTH}262145")), (413, "a length of twelve digits", asking(drivers, OFFICE, f"{LENGTH}999999999999")), (400, "a length of thirteen digits", asking(drivers, OFFICE, f"{LENGTH}0000000000009")),
-        (400, "a length of 262,144, and no body", asking(drivers, OFFICE, f"{LENGTH}262144")), (201, "bytes after the body have no effect", asking(drivers, OFFICE, f"{LENGTH}{len(BERT):012}", body=BERT + b"\n19")),
-        (200, "no length where no body is expected", asking("POST /drivers/17/base/2024-03-11", OFFICE)), (200, "the length 0 where no body is expected", asking("POST /drivers/17/base/2024-03-11", OFFICE, f"{LENGTH}0")),
-        (400, "the length 1 where no body is expected", asking("POST /drivers/17/base/2024-03-11", OFFICE, f"{LENGTH}1", body=b"\n")), (413, "the length 262,145 where no body is expected", asking("POST /drivers/17/base/2024-03-11", OFFICE, f"{LENGTH}262145")),
-        (404, "bytes without a length where no body is expected", asking("POST /drivers/17/withdraw/1", OFFICE, body=b"more")), (400, "a body that lacks a byte", posting("/cards/both", OFFICE, DAY)[:-1]),
-        (400, "no byte of the body", posting("/cards/both", OFFICE, DAY)[: -len(DAY)]), (422, "the length 0 of a driver", asking(drivers, OFFICE, f"{LENGTH}0")), (422, "a length that ends with the head of CSV", asking(drivers, OFFICE, f"{LENGTH}27", body=BERT)),
-        (201, "262,144 bytes", posting("/drivers/17/entries", OFFICE, FREE_DAYS + b"\n" * (262_144 - len(FREE_DAYS)))), (413, "262,145 bytes", posting("/drivers/17/entries", OFFICE, FREE_DAYS + b"\n" * (262_145 - len(FREE_DAYS)))),
+        (400, "a transfer-encoding", asking(drivers, OFFICE, "transfer-encoding: chunked")),
+        (400, "an empty transfer-encoding comes before a length that is too large",
+         asking(drivers, OFFICE, "Transfer-Encoding:", f"{LENGTH}262145")),
+        (400, "a transfer-encoding where no body is expected", posting("/drivers/17/withdraw/1", OFFICE, b"",
+                                                                           "transfer-encoding: identity")),
+        (200, "a GET with a transfer-encoding", asking("GET /me/entries", DRIVER, "transfer-encoding: chunked")),
+        (200, "a GET with wrong lengths", asking("GET /me/entries", DRIVER, f"{LENGTH}many", f"{LENGTH}262145")),
+        (411, "a body without a length", asking("POST /drivers/17/entries", OFFICE, body=FREE_DAYS)),
+        (400, "two lengths", asking(drivers, OFFICE, f"{LENGTH}262145", f"{LENGTH}262145")),
+        (400, "the right length twice", posting("/drivers", OFFICE, BERT, f"{LENGTH}{len(BERT)}")),
+        (413, "a length of 262,145", asking(drivers, OFFICE, f"{LENGTH}262145")),
+        (413, "a length of twelve digits", asking(drivers, OFFICE, f"{LENGTH}999999999999")),
+        (400, "a length of thirteen digits", asking(drivers, OFFICE, f"{LENGTH}0000000000009")),
+        (400, "a length of 262,144, and no body", asking(drivers, OFFICE, f"{LENGTH}262144")),
+        (201, "bytes after the body have no effect", asking(drivers, OFFICE, f"{LENGTH}{len(BERT):012}", body=BERT + b"\n19")),
+        (200, "no length where no body is expected", asking("POST /drivers/17/base/2024-03-11", OFFICE)),
+        (200, "the length 0 where no body is expected", asking("POST /drivers/17/base/2024-03-11", OFFICE, f"{LENGTH}0")),
+        (400, "the length 1 where no body is expected", asking("POST /drivers/17/base/2024-03-11", OFFICE, f"{LENGTH}1", body=b"\n")),
+        (413, "the length 262,145 where no body is expected", asking("POST /drivers/17/base/2024-03-11", OFFICE, f"{LENGTH}262145")),
+        (404, "bytes without a length where no body is expected", asking("POST /drivers/17/withdraw/1", OFFICE, body=b"more")),
+        (400, "a body that lacks a byte", posting("/cards/both", OFFICE, DAY)[:-1]),
+        (400, "no byte of the body", posting("/cards/both", OFFICE, DAY)[: -len(DAY)]),
+        (422, "the length 0 of a driver", asking(drivers, OFFICE, f"{LENGTH}0")),
+        (422, "a length that ends with the head of CSV", asking(drivers, OFFICE, f"{LENGTH}27", body=BERT)),
+        (201, "262,144 bytes", posting("/drivers/17/entries", OFFICE, FREE_DAYS + b"\n" * (262_144 - len(FREE_DAYS)))),
+        (413, "262,145 bytes", posting("/drivers/17/entries", OFFICE, FREE_DAYS + b"\n" * (262_145 - len(FREE_DAYS)))),
     ]
     for status, what, request in rows:
         yield made("body", status, what, [ADD_ANNA, request])
@@ -125,13 +175,27 @@ def bodies() -> Iterator[Made]:
 def arguments() -> Iterator[Made]:
     """What stands in a path."""
     rows = [
-        (400, "a number with a zero in front, before what is wrong with the body", posting("/drivers/017/entries", OFFICE, b"nothing")), (400, "a number of 1000000", asking("GET /drivers/1000000/owed", OFFICE)), (400, "the number 0", asking("GET /drivers/0/owed", OFFICE)),
-        (400, "digits in percent signs", asking("GET /drivers/%31%37/breaches", OFFICE)), (400, "a question mark after the number", asking("GET /drivers/17?/breaches", OFFICE)), (400, "an unknown part", posting("/cards/whole", OFFICE, b"nothing")),
-        (400, "a part with a capital", posting("/me/cards/Both", DRIVER, DAY)), (400, "a wrong number before a wrong month", asking("GET /drivers/0/sheet/2024-13", OFFICE)), (400, "month 13", asking("GET /drivers/17/sheet/2024-13", OFFICE)),
-        (400, "a month of another shape", asking("GET /me/sheet/2024-3", DRIVER)), (400, "a month of 2100", asking("GET /me/gaps/2100-01", DRIVER)), (400, "a wrong month before an unknown driver", asking("GET /drivers/18/sheet/2024-13", OFFICE)),
-        (404, "an unknown driver", asking("GET /drivers/18/sheet/2024-03", OFFICE)), (400, "a download's number of 1000001", asking("GET /me/files/1000001", DRIVER)), (404, "an unknown download", asking("GET /me/files/1", DRIVER)),
-        (404, "the largest number of a download", asking("GET /me/files/1000000", DRIVER)), (400, "an entry's number 0", asking("POST /drivers/17/withdraw/0", OFFICE)), (400, "30 February", asking("POST /drivers/17/base/2024-02-30", OFFICE)),
-        (422, "a base that isn't a Monday", asking("POST /drivers/17/base/2024-03-05", OFFICE)), (400, "a base before the days that are read", asking("POST /drivers/17/base/1999-12-27", OFFICE)), (404, "the largest number of a driver", asking("GET /drivers/999999/owed", OFFICE)),
+        (400, "a number with a zero in front, before what is wrong with the body", posting("/drivers/017/entries", OFFICE, b"nothing")),
+        (400, "a number of 1000000", asking("GET /drivers/1000000/owed", OFFICE)),
+        (400, "the number 0", asking("GET /drivers/0/owed", OFFICE)),
+        (400, "digits in percent signs", asking("GET /drivers/%31%37/breaches", OFFICE)),
+        (400, "a question mark after the number", asking("GET /drivers/17?/breaches", OFFICE)),
+        (400, "an unknown part", posting("/cards/whole", OFFICE, b"nothing")),
+        (400, "a part with a capital", posting("/me/cards/Both", DRIVER, DAY)),
+        (400, "a wrong number before a wrong month", asking("GET /drivers/0/sheet/2024-13", OFFICE)),
+        (400, "month 13", asking("GET /drivers/17/sheet/2024-13", OFFICE)),
+        (400, "a month of another shape", asking("GET /me/sheet/2024-3", DRIVER)),
+        (400, "a month of 2100", asking("GET /me/gaps/2100-01", DRIVER)),
+        (400, "a wrong month before an unknown driver", asking("GET /drivers/18/sheet/2024-13", OFFICE)),
+        (404, "an unknown driver", asking("GET /drivers/18/sheet/2024-03", OFFICE)),
+        (400, "a download's number of 1000001", asking("GET /me/files/1000001", DRIVER)),
+        (404, "an unknown download", asking("GET /me/files/1", DRIVER)),
+        (404, "the largest number of a download", asking("GET /me/files/1000000", DRIVER)),
+        (400, "an entry's number 0", asking("POST /drivers/17/withdraw/0", OFFICE)),
+        (400, "30 February", asking("POST /drivers/17/base/2024-02-30", OFFICE)),
+        (422, "a base that isn't a Monday", asking("POST /drivers/17/base/2024-03-05", OFFICE)),
+        (400, "a base before the days that are read", asking("POST /drivers/17/base/1999-12-27", OFFICE)),
+        (404, "the largest number of a driver", asking("GET /drivers/999999/owed", OFFICE)),
     ]
     for status, what, request in rows:
         yield made("argument", status, what, [ADD_ANNA, request])
@@ -140,14 +204,22 @@ def arguments() -> Iterator[Made]:
 def refusals() -> Iterator[Made]:
     """Refusals of the archive, each with its line."""
     rows = [
-        (409, "a driver's number is taken (S1)", [ADD_ANNA, ADD_ANNA]), (409, "a driver's key is taken (S2)", [ADD_ANNA, posting("/drivers", OFFICE, BERT.replace(b"bert", b"anna"))]),
-        (409, "a driver's card is taken (S3)", [ADD_ANNA, posting("/drivers", OFFICE, SAME_HOLDER)]), (422, "a new driver's base isn't a Monday (S9)", [posting("/drivers", OFFICE, BERT.replace(b"02-05", b"02-06"))]),
-        (422, "a driver's number has a zero in front (E9)", [posting("/drivers", OFFICE, BERT.replace(b"18,", b"018,"))]), (422, "hours have no head (E1), before the driver is looked for", [ADD_ANNA, posting("/drivers/18/entries", OFFICE, b"")]),
-        (404, "hours of an unknown driver (S4)", [ADD_ANNA, posting("/drivers/18/entries", OFFICE, FREE_DAYS)]), (422, "hours on a ferry (E5)", [ADD_ANNA, posting("/drivers/17/entries", OFFICE, FREE_DAYS.replace(b"rest", b"ferry"))]),
-        (422, "hours without an author (E10)", [ADD_ANNA, posting("/drivers/17/entries", OFFICE, NO_AUTHOR)]), (422, "hours with a long note (E10)", [ADD_ANNA, posting("/drivers/17/entries", OFFICE, LONG_NOTE)]),
-        (422, "a card file without an identification (C3)", [ADD_ANNA, posting("/cards/both", OFFICE, b"")]), (422, "a card file that is cut (C1)", [ADD_ANNA, posting("/cards/both", OFFICE, DAY[:-1])]),
-        (404, "a card file of an unknown holder (S4)", [ADD_ANNA, posting("/cards/both", OFFICE, OTHER_HOLDER)]), (403, "a driver sends another one's card file (S5)", [ADD_ANNA, posting("/me/cards/both", DRIVER, OTHER_HOLDER)]),
-        (409, "a card file contradicts entered hours (S6)", [ADD_ANNA, ADD_HOURS, posting("/me/cards/both", DRIVER, SATURDAY)]), (404, "an unknown entry is withdrawn (S7)", [ADD_ANNA, asking("POST /drivers/17/withdraw/1", OFFICE)]),
+        (409, "a driver's number is taken (S1)", [ADD_ANNA, ADD_ANNA]),
+        (409, "a driver's key is taken (S2)", [ADD_ANNA, posting("/drivers", OFFICE, BERT.replace(b"bert", b"anna"))]),
+        (409, "a driver's card is taken (S3)", [ADD_ANNA, posting("/drivers", OFFICE, SAME_HOLDER)]),
+        (422, "a new driver's base isn't a Monday (S9)", [posting("/drivers", OFFICE, BERT.replace(b"02-05", b"02-06"))]),
+        (422, "a driver's number has a zero in front (E9)", [posting("/drivers", OFFICE, BERT.replace(b"18,", b"018,"))]),
+        (422, "hours have no head (E1), before the driver is looked for", [ADD_ANNA, posting("/drivers/18/entries", OFFICE, b"")]),
+        (404, "hours of an unknown driver (S4)", [ADD_ANNA, posting("/drivers/18/entries", OFFICE, FREE_DAYS)]),
+        (422, "hours on a ferry (E5)", [ADD_ANNA, posting("/drivers/17/entries", OFFICE, FREE_DAYS.replace(b"rest", b"ferry"))]),
+        (422, "hours without an author (E10)", [ADD_ANNA, posting("/drivers/17/entries", OFFICE, NO_AUTHOR)]),
+        (422, "hours with a long note (E10)", [ADD_ANNA, posting("/drivers/17/entries", OFFICE, LONG_NOTE)]),
+        (422, "a card file without an identification (C3)", [ADD_ANNA, posting("/cards/both", OFFICE, b"")]),
+        (422, "a card file that is cut (C1)", [ADD_ANNA, posting("/cards/both", OFFICE, DAY[:-1])]),
+        (404, "a card file of an unknown holder (S4)", [ADD_ANNA, posting("/cards/both", OFFICE, OTHER_HOLDER)]),
+        (403, "a driver sends another one's card file (S5)", [ADD_ANNA, posting("/me/cards/both", DRIVER, OTHER_HOLDER)]),
+        (409, "a card file contradicts entered hours (S6)", [ADD_ANNA, ADD_HOURS, posting("/me/cards/both", DRIVER, SATURDAY)]),
+        (404, "an unknown entry is withdrawn (S7)", [ADD_ANNA, asking("POST /drivers/17/withdraw/1", OFFICE)]),
         (409, "an entry is withdrawn twice (S8)", [ADD_ANNA, ADD_HOURS, *[asking("POST /drivers/17/withdraw/1", OFFICE)] * 2]),
     ]
     for status, what, requests in rows:
@@ -162,13 +234,16 @@ def done() -> Iterator[Made]:
     yield made("done", 200, "the same card file is repeated", [*WITH_DAY, ADD_DAY])
     yield made("done", 201, "hours are entered", [ADD_ANNA, ADD_HOURS])
     for head in (HOURS_HEAD, SIGNED_HEAD):
-        yield made("done", 200, f"a head of {head.count(b',') + 1} columns alone enters none", [ADD_ANNA, posting("/drivers/17/entries", OFFICE, head)])
+        yield made("done", 200, f"a head of {head.count(b',') + 1} columns alone enters none",
+                   [ADD_ANNA, posting("/drivers/17/entries", OFFICE, head)])
     yield made("done", 200, "an entry is withdrawn", [ADD_ANNA, ADD_HOURS, asking("POST /drivers/17/withdraw/1", OFFICE)])
     yield made("done", 201, "a card file is taken that contradicted an entry before that was withdrawn",
                [ADD_ANNA, ADD_HOURS, asking("POST /drivers/17/withdraw/1", OFFICE), posting("/me/cards/both", DRIVER, SATURDAY)])
     whole = [*WITH_DAY, ADD_HOURS, posting("/drivers/17/entries", OFFICE, DAY_OFF)]
-    for (who, key), what in itertools.product((("/drivers/17", OFFICE), ("/me", DRIVER)), ("spans/2024-03", "gaps/2024-03", "sheet/2024-03", "breaches", "owed", "entries", "files/1")):
-        yield made("done", 200, f"'{what}' is asked for by {'the office' if key == OFFICE else 'the driver'}", [*whole, asking(f"GET {who}/{what}", key)])
+    for (who, key), what in itertools.product((("/drivers/17", OFFICE), ("/me", DRIVER)),
+                                              ("spans/2024-03", "gaps/2024-03", "sheet/2024-03", "breaches", "owed", "entries", "files/1")):
+        yield made("done", 200, f"'{what}' is asked for by {'the office' if key == OFFICE else 'the driver'}",
+                   [*whole, asking(f"GET {who}/{what}", key)])
 
 
 def requests() -> list[Made]:

@@ -6,13 +6,18 @@ import itertools
 import random
 from collections.abc import Iterable, Iterator, Sequence
 
-from inputs.vector_days import DAY, WEEK, judged, made
+from inputs.vector_days import DAY, WEEK, judged, made, minutes_text
 from lib.vector_sets import Made
 
 Rest = tuple[int, int]  # start and minutes
 
 SHORT = 1300  # a rest that is no weekly rest, and has room for 760 minutes
-NO_ROOM = 539  # a rest that has no room for any debt, and ends no day
+NO_ROOM = 419  # a rest that has no room for any debt, and ends no day
+
+
+def gap_for(debt: int) -> int:
+    """The length of short rests that have no room for a debt."""
+    return SHORT if debt > SHORT - 540 else NO_ROOM
 
 
 def filled(start: int, past: int, gap: int) -> str:
@@ -47,15 +52,15 @@ def laid(rests: Iterable[Rest], horizon: int, gap: int = SHORT) -> str:
 # Weeks by what they have: a name, and the rests from the week's start on. Those that begin before a week or end after it are in two weeks
 # or more.
 KINDS: dict[str, tuple[str, list[Rest]]] = {
-    ".": ("no weekly rest", []),
-    "s": ("one of 24 hours", [(3 * DAY, 1440)]),
-    "S": ("one of 45 hours", [(3 * DAY, 2700)]),
-    "o": ("one of 24 hours over its end", [(WEEK - 720, 1440)]),
-    "O": ("one of 45 hours over its end", [(WEEK - 1350, 2700)]),
+    ".": ("none", []),
+    "s": ("24 hours", [(3 * DAY, 1440)]),
+    "S": ("45 hours", [(3 * DAY, 2700)]),
+    "o": ("24 hours over its end", [(WEEK - 720, 1440)]),
+    "O": ("45 hours over its end", [(WEEK - 1350, 2700)]),
     "W": ("rest alone", [(0, WEEK)]),
-    "L": ("rest alone, and rest on both sides", [(-600, WEEK + 1200)]),
-    "T": ("one of 24 and one of 45 hours", [(DAY, 1440), (4 * DAY, 2700)]),
-    "m": ("one of 45 hours but a minute over its end", [(WEEK - 1350, 2699)]),
+    "L": ("rest beyond both ends", [(-600, WEEK + 1200)]),
+    "T": ("24 and 45 hours", [(DAY, 1440), (4 * DAY, 2700)]),
+    "m": ("2,699 minutes over its end", [(WEEK - 1350, 2699)]),
 }
 
 
@@ -127,11 +132,11 @@ def weekly_rests() -> Iterator[Made]:
         last = max((start + minutes for start, minutes in rests), default=0)
         horizon = max(end, last) + (1 if last >= end else 0)
         found = [week for week in lacking(rests, horizon // WEEK) if week]
-        what = f"weeks with {pattern_text(pattern)}, of which each two need two weekly rests, one of them of 45 hours"
+        what = f"weekly rests by week: {pattern_text(pattern)}, where each two weeks need two, one of them of 45 hours"
         yield made("B9", "B9", what, judged(bool(found)), laid(rests, horizon))
         if number % 4 == 0:
             is_breach = any(week for week in lacking(rests, len(pattern) - 1) if week)
-            what = f"weeks with {pattern_text(pattern)}, the last of which is a minute short of its end"
+            what = f"weekly rests by week: {pattern_text(pattern)}, and the horizon is a minute before the last week's end"
             kept = [(start, minutes) for start, minutes in rests if start < end - 2]
             yield made("B9", "B9", what, judged(is_breach), laid(kept, end - 1))
 
@@ -145,34 +150,35 @@ def rests_at_limits() -> Iterator[Made]:
         yield made("B9", "B9", what, judged(first < 1440 or second < 2700), laid([(3 * DAY, second), (WEEK + 3 * DAY, first)], 2 * WEEK))
     for into in (-1, 0, 1, 2):
         rests = [(3 * DAY, 1440), (2 * WEEK - into, 2700)]
-        what = f"a rest of 24 hours in the first week, and one of 45 of which {max(0, into)} minutes lie before the end of the second"
+        what = f"a rest of 24 hours in the first week, and one of 45 of which {minutes_text(max(0, into))} lie before the end of the second"
         yield made("B9", "B9", what, judged(into < 1), laid(rests, 2 * WEEK + 2801))
         rests = [(WEEK + 3 * DAY, 1440), (WEEK + 8 * DAY, 2700), (3 * WEEK - 1 - into, 2701)]
-        what = f"three weeks, the first without a rest, and one that begins {into + 1} minutes before the end of the third"
+        what = f"three weeks, the first without a rest, and one that begins {minutes_text(into + 1)} before the end of the third"
         found = [week for week in lacking(rests, 3) if week]
         yield made("B9", "B9", what, judged(bool(found)), laid([rest for rest in rests if rest != rests[1]], 3 * WEEK + 2900))
     for before in (0, 1, 1440, 2700):
         rests = [(3 * DAY, 2700)]
-        what = f"{before} minutes of rest from the base on, which belong to the first rest, and one of 45 hours in two weeks"
+        what = f"{minutes_text(before)} of rest from the base on, which belong to the first rest, and one of 45 hours in two weeks"
         text = (f"r{before} " if before else "") + laid([(start - before, minutes) for start, minutes in rests], 2 * WEEK - before)
         yield made("B9", "B9", what, judged(before == 0), text)
     for left in (-1, 0, 1):
-        text = laid([(3 * DAY, 2700)], 2 * WEEK - max(left, 0)) + (" r600" if left >= 0 else "")
-        what = f"one rest of 45 hours, and a last rest that starts {max(left, 0)} minutes before the end of the second week" if left >= 0 else \
-            "one rest of 45 hours in two weeks, and work up to the horizon"
-        yield made("B9", "B9", what, judged(left < 1), text)
+        end = max(left, 0)
+        last = f"a last rest that starts {minutes_text(end)} before the end of the second week" if left >= 0 else "work up to the horizon"
+        text = laid([(3 * DAY, 2700)], 2 * WEEK - end) + (" r600" if left >= 0 else "")
+        yield made("B9", "B9", f"one rest of 45 hours in two weeks, and {last}", judged(left < 1), text)
 
 
 def restarts() -> Iterator[Made]:
     """B9 after a B9: the search begins anew at the later of the two weeks."""
     for count in range(2, 7):
         yield made("B9", "B9", f"{count} weeks without a weekly rest: a breach for each two", "breach", laid([], count * WEEK))
-    for pattern in ("..S", "..O", "..SS", "S..S", "..OO", "S...S", "O..O", "..T", "T..T", "OO..OO", "S.S.S", "..W..", ".W.", "..L..", "O.O.O"):
+    for pattern in ("..S", "..O", "..SS", "S..S", "..OO", "S...S", "O..O", "..T", "T..T", "OO..OO", "S.S.S", "..W..", ".W.", "..L..",
+                    "O.O.O"):
         rests = rests_of(pattern)
         if rests is not None:
             horizon = max(WEEK * len(pattern), max(start + minutes for start, minutes in rests) + 1)
             found = [week for week in lacking(rests, horizon // WEEK) if week]
-            what = f"weeks with {pattern_text(pattern)}: after a breach the search begins anew at the later of the two weeks"
+            what = f"weekly rests by week: {pattern_text(pattern)}, where after a breach the search begins anew at the later week"
             yield made("B9", "B9", what, judged(bool(found)), laid(rests, horizon))
 
 
@@ -188,7 +194,8 @@ def main_rests() -> Iterator[Made]:
         is_owed = 1440 <= minutes < 2700
         for gap in (NO_ROOM, SHORT):
             claim = "no debt" if not is_owed else "paid" if 2700 - minutes <= gap - 540 else "not paid"
-            what = f"a week's longest rest has {minutes} minutes, where one of 1,440 to 2,699 owes what it lacks of 2,700, and all others have {gap}"
+            what = (f"a week's longest rest has {minutes} minutes, where one of 1,440 to 2,699 owes what it lacks of 2,700, and "
+                    f"all others have {gap}")
             yield made("debts", "B10", what, claim, laid([(FRIDAY, minutes)], 2 * WEEK, gap))
     for first, second in itertools.product((1440, 1500, 1501), (1440, 1500, 1501)):
         longest = max(first, second)
@@ -216,7 +223,7 @@ def last_runs() -> Iterator[Made]:
     for debt, own in itertools.product((60, 899, 900, 1260), (540, 2700)):
         for more in (-1, 0, 1):
             known = own + debt + more
-            text = laid([(DAY, 2700 - debt)], WEEK + DAY, NO_ROOM) + f" r{known}"
+            text = laid([(DAY, 2700 - debt)], WEEK + DAY, gap_for(debt)) + f" r{known}"
             is_main = known >= 1440
             is_paid = known - (2700 if is_main else 540) >= debt
             what = f"a week owes {debt} minutes, and of the last rest, in the week after, {known} are held before the horizon"
@@ -228,23 +235,23 @@ def payers() -> Iterator[Made]:
     for debt, more in itertools.product((1, 60, 900, 1259, 1260), (-1, 0, 1)):
         first = (FRIDAY, 2700 - debt)
         minutes = 540 + debt + more
-        text = laid([first, (WEEK + DAY, minutes), (WEEK + FRIDAY, 2700)], 2 * WEEK + DAY, NO_ROOM)
+        text = laid([first, (WEEK + DAY, minutes), (WEEK + FRIDAY, 2700)], 2 * WEEK + DAY, gap_for(debt))
         what = f"a week owes {debt} minutes, and a rest of {minutes} beside a longer one in the next week keeps 540"
         yield made("debts", "B10", what, "paid" if more >= 0 else "not paid", text)
         minutes = 2700 + debt + more
-        text = laid([first, (WEEK + DAY, minutes)], 2 * WEEK + DAY, NO_ROOM)
+        text = laid([first, (WEEK + DAY, minutes)], 2 * WEEK + DAY, gap_for(debt))
         what = f"a week owes {debt} minutes, and a rest of {minutes}, the longest of the next week, keeps 2,700"
         yield made("debts", "B10", what, "paid" if more >= 0 else "not paid", text)
         if 540 + debt + more < 2700 - debt:
             minutes = 540 + debt + more
-            text = laid([(DAY, 2700 - debt), (FRIDAY, minutes)], WEEK + DAY, NO_ROOM)
+            text = laid([(DAY, 2700 - debt), (FRIDAY, minutes)], WEEK + DAY, gap_for(debt))
             what = f"a week owes {debt} minutes, and a later rest of {minutes} in the same week keeps 540"
             yield made("debts", "B10", what, "paid" if more >= 0 else "not paid", text)
-            text = laid([(DAY, minutes), (FRIDAY, 2700 - debt)], WEEK + DAY, NO_ROOM)
+            text = laid([(DAY, minutes), (FRIDAY, 2700 - debt)], WEEK + DAY, gap_for(debt))
             what = f"a week owes {debt} minutes, and a rest of {minutes} comes before the one that is too short"
             yield made("debts", "B10", what, "not paid", text)
     for length in (1440, 2699, 2700, 3959, 3960):
-        text = laid([(FRIDAY, 1440), (WEEK + DAY, length)], 3 * WEEK, NO_ROOM)
+        text = laid([(FRIDAY, 1440), (WEEK + DAY, length)], 3 * WEEK, SHORT)
         what = f"a week owes 1,260 minutes, and the longest rest of the next week has {length}: below 2,700 it keeps all, and then 2,700"
         yield made("debts", "B10", what, "paid" if length >= 3960 else "not paid", text)
 
@@ -255,21 +262,22 @@ def deadlines() -> Iterator[Made]:
         minutes = 540 + debt
         start = DEADLINE - minutes + more
         others = [(WEEK * week + DAY, 2700) for week in (1, 2, 3)]
-        text = laid([(FRIDAY, 2700 - debt), *others, (start, minutes)], DEADLINE + 2 * DAY, NO_ROOM)
-        what = f"a week owes {debt} minutes, and the only rest that has room for them ends {abs(more)} minutes {'after' if more > 0 else 'before'} its deadline"
+        text = laid([(FRIDAY, 2700 - debt), *others, (start, minutes)], DEADLINE + 2 * DAY, gap_for(debt))
+        what = (f"a week owes {debt} minutes, and the only rest that has room for them ends {abs(more)} minutes "
+                f"{'after' if more > 0 else 'before'} its deadline")
         yield made("deadline", "B10", what, judged(more > 0), text)
     for debt, end in itertools.product((60, 1260), (-60, -1, 0, 1, 60)):
-        text = laid([(FRIDAY, 2700 - debt), *[(WEEK * week + DAY, 2700) for week in (1, 2, 3)]], DEADLINE + end, NO_ROOM)
-        what = f"nothing pays {debt} minutes, and the horizon is {abs(end)} minutes {'before' if end < 0 else 'after'} the deadline"
+        text = laid([(FRIDAY, 2700 - debt), *[(WEEK * week + DAY, 2700) for week in (1, 2, 3)]], DEADLINE + end, gap_for(debt))
+        what = f"nothing pays {debt} minutes, and the horizon is {minutes_text(abs(end))} {'before' if end < 0 else 'after'} the deadline"
         yield made("deadline", "B10", what, judged(end >= 0), text)
     for week, name in ((1, "first"), (2, "second"), (3, "third"), (4, "fourth")):
         others = [(WEEK * other + DAY, 2700) for other in (1, 2, 3, 4) if other != week]
-        text = laid([(FRIDAY, 1440), *others, (WEEK * week + DAY, 3960)], 5 * WEEK + DAY, NO_ROOM)
+        text = laid([(FRIDAY, 1440), *others, (WEEK * week + DAY, 3960)], 5 * WEEK + DAY, SHORT)
         what = f"a week owes 1,260 minutes, and a rest in the {name} week after it has room for them, where the third is the last"
         yield made("deadline", "B10", what, judged(week > 3), text)
     for before in (540 + 1259, 540 + 1260, 540 + 1261):
         others = [(WEEK * week + DAY, 2700) for week in (1, 2)] + [(3 * WEEK + DAY, 2710)]
-        text = laid([(FRIDAY, 1440), *others, (DEADLINE - before, before + 900)], DEADLINE + 3 * DAY, NO_ROOM)
+        text = laid([(FRIDAY, 1440), *others, (DEADLINE - before, before + 900)], DEADLINE + 3 * DAY, SHORT)
         is_main = before + 900 > 2710
         what = f"a rest goes on beyond the deadline, and {before} of its minutes lie before it, where 540 and the debt of 1,260 are needed"
         yield made("deadline", "B10", what, judged(before < 1800 or is_main), text)
@@ -282,24 +290,26 @@ def several_debts() -> Iterator[Made]:
             minutes = 2700 + one + other + more
             rests = [(FRIDAY, 2700 - one), (WEEK + FRIDAY, 2700 - other), (2 * WEEK + DAY, minutes)]
             what = f"two weeks owe {one} and {other} minutes, and a rest in the third has room for {text}"
-            yield made("several", "B10", what, "paid", laid(rests, 3 * WEEK + DAY, NO_ROOM))
+            yield made("several", "B10", what, "paid", laid(rests, 3 * WEEK + DAY, gap_for(min(one, other))))
         for more, text in ((0, "the second alone"), (-1, "neither")):
             minutes = 2700 + other + more
             if other < one:
                 rests = [(FRIDAY, 2700 - one), (WEEK + FRIDAY, 2700 - other), (2 * WEEK + DAY, minutes), (3 * WEEK + DAY, 2700 + one)]
-                what = f"two weeks owe {one} and {other} minutes; a rest in the third has room for {text}, and one in the fourth for the first"
+                what = (f"two weeks owe {one} and {other} minutes; a rest in the third has room for {text}, and one in the fourth "
+                        f"for the first")
                 claim = "paid"
-                yield made("several", "B10", what, claim, laid(rests, 4 * WEEK + DAY, NO_ROOM))
+                yield made("several", "B10", what, claim, laid(rests, 4 * WEEK + DAY, gap_for(min(one, other))))
     for count in (2, 3, 4):
         rests = [(WEEK * week + FRIDAY, 1440) for week in range(count)]
         for paid in range(count + 1):
             late = [(WEEK * count + FRIDAY, 2700 + 1260 * paid)] if paid < 3 else [(WEEK * count + DAY, 2700 + 1260 * paid)]
-            text = laid([*rests, *late], WEEK * (count + 1) + 2 * DAY, NO_ROOM)
+            text = laid([*rests, *late], WEEK * (count + 1) + 2 * DAY, SHORT)
             is_first_paid = paid > 0 and count < 4
             what = f"{count} weeks in a row owe 1,260 minutes each, and a rest in the week after has room for {paid} of these debts"
             yield made("several", "B10", what, "paid" if is_first_paid else "not paid", text)
     for gap in (0, 1, 2):
-        rests = [(FRIDAY, 2000), (WEEK + FRIDAY, 2000), (2 * WEEK + DAY, 1240 + gap), (2 * WEEK + 3 * DAY, 1240 + 700 + gap), (2 * WEEK + 5 * DAY, 2700)]
+        rests = [(FRIDAY, 2000), (WEEK + FRIDAY, 2000), (2 * WEEK + DAY, 1240 + gap), (2 * WEEK + 3 * DAY, 1240 + 700 + gap),
+                 (2 * WEEK + 5 * DAY, 2700)]
         what = f"two weeks owe 700 minutes each, and of two rests in the third the first has room for 700 and {gap} more"
         yield made("several", "B10", what, "paid", laid(rests, 3 * WEEK + 2 * DAY, NO_ROOM))
 
@@ -309,16 +319,17 @@ def owed_and_paid() -> Iterator[Made]:
     for debt in (60, 900, 1260):
         rests = [(FRIDAY, 2700 - debt), (WEEK + DAY, 1440 + 540), (WEEK + FRIDAY, 2700)]
         what = f"a week owes {debt} minutes, and a rest of 1,980, which still counts as a weekly rest for B8, pays up to 1,440"
-        yield made("counted", "B10", what, "paid", laid(rests, 2 * WEEK + DAY, NO_ROOM))
+        yield made("counted", "B10", what, "paid", laid(rests, 2 * WEEK + DAY, gap_for(debt)))
         rests = [(FRIDAY, 2700 - debt), (WEEK + FRIDAY, 2700 + debt)]
         what = f"a week owes {debt} minutes, and the next week's rest of {2700 + debt} pays and is its regular weekly rest"
-        yield made("counted", "B10", what, "paid", laid(rests, 2 * WEEK + DAY, NO_ROOM))
+        yield made("counted", "B10", what, "paid", laid(rests, 2 * WEEK + DAY, gap_for(debt)))
     rests = [(FRIDAY, 1440), (WEEK + DAY, 2700), (WEEK + FRIDAY, 2710), (3 * WEEK - 1350, 1440)]
-    what = "a week owes 1,260 minutes, and of two rests of 45 hours in the next week the shorter one pays, and still counts as regular for B9"
-    yield made("counted", "B10", what, "paid", laid(rests, 3 * WEEK + DAY, NO_ROOM))
+    what = ("a week owes 1,260 minutes, and of two rests of 45 hours in the next week the shorter one pays, and still counts as "
+            "regular for B9")
+    yield made("counted", "B10", what, "paid", laid(rests, 3 * WEEK + DAY, SHORT))
     rests = [(WEEK + DAY, 2700), (WEEK + FRIDAY, 2710)]
     what = "the first rest, of which a day is held, is no week's longest, so that week owes nothing"
-    yield made("counted", "B10", what, "no debt", "r1440 " + laid(rests, 2 * WEEK + DAY, NO_ROOM))
+    yield made("counted", "B10", what, "no debt", "r1440 " + laid(rests, 2 * WEEK + DAY, SHORT))
 
 
 def timelines() -> list[Made]:

@@ -1,10 +1,10 @@
-"""Conformance cases of stretches: what is examined of a timeline with gaps and crew, and what isn't. docs/RULES.md, 'Stretches', says it."""
+"""Conformance cases of stretches: what is examined of a timeline with gaps and crew, and what isn't (docs/RULES.md, 'Stretches')."""
 import itertools
 from collections.abc import Iterator
 
-from inputs.vector_days import BASE, DAY, WEEK, given_of
+from inputs.vector_days import BASE, DAY, WEEK, given_of, minutes_text
 from inputs.vector_timelines import BROKEN
-from inputs.vector_rests import NO_ROOM, laid
+from inputs.vector_rests import SHORT, laid
 from lib.vector_sets import Given, Made
 
 NUMBERS = ["no stretches", "one stretch", "two stretches", "three stretches", "four stretches", "five stretches"]
@@ -32,20 +32,22 @@ def made(what: str, text: str, before: int = 0) -> Made:
     given = given_of(text, BASE - before)
     given["base"] = BASE
     count = stretch_count(given)
-    return Made("stretches", f"stretches: {what}; there {'is' if count == 1 else 'are'} {NUMBERS[count]}.", "stretches", f"stretches {count}", given)
+    return Made("stretches", f"stretches: {what}; there {'is' if count == 1 else 'are'} {NUMBERS[count]}.", "stretches",
+                f"stretches {count}", given)
 
 
 def around_mondays() -> Iterator[Made]:
     """Horizons and new beginnings near a Monday's first minute."""
-    for horizon, name in ((600, "on Monday at 10:00"), (WEEK - 1, "a minute before the next Monday"), (WEEK, "at the next Monday's first minute"),
-                          (WEEK + 1, "a minute after the next Monday's first")):
+    for horizon, name in ((600, "on Monday at 10:00"), (WEEK - 1, "a minute before the next Monday"),
+                          (WEEK, "at the next Monday's first minute"), (WEEK + 1, "a minute after the next Monday's first")):
         for back, text in ((WEEK - 1, "a minute before"), (WEEK, "at"), (WEEK + 1, "a minute after")):
             for week in (0, 1):
                 again = back + week * WEEK
                 if again > horizon:
                     what = f"minutes are held up to {name}, and again from {text} the Monday that comes {week + 1} weeks after the base"
                     yield made(what, f"r{horizon} x{again - horizon} r3000 d60 r600")
-    for monday, name in (("r1", "rest"), ("d1", "driving"), ("dc1", "driving with a second driver"), ("rc1", "rest with a second driver"), ("x1", "not held")):
+    for monday, name in (("r1", "rest"), ("d1", "driving"), ("dc1", "driving with a second driver"), ("rc1", "rest with a second driver"),
+                         ("x1", "not held")):
         for after in ("r600 d60", "x600 d60", "dc600 d60"):
             what = f"after a gap the Monday's first minute is {name}, and then come {after}"
             yield made(what, f"r360 d60 x{WEEK - 420} {monday} {after}")
@@ -73,7 +75,7 @@ def ends() -> Iterator[Made]:
     yield made("only minutes before the base are held", "d600", WEEK)
     yield made("minutes before the base and up to it are held, and none after it", f"d{WEEK}", WEEK)
     for start in (1, 600, WEEK - 1, WEEK, WEEK + 1, 2 * WEEK):
-        yield made(f"the first minute that is held comes {start} minutes after the base", f"x{start} d300 r600")
+        yield made(f"the first minute that is held comes {minutes_text(start)} after the base", f"x{start} d300 r600")
     for kind in ("d", "r", "dc", "rc"):
         yield made(f"after the horizon only '{kind}' of one minute is held, on a Wednesday", f"r600 x{2 * DAY} {kind}1")
         yield made(f"after the horizon only '{kind}' of one minute is held, on a Monday at 00:00", f"r600 x{WEEK - 600} {kind}1")
@@ -88,16 +90,18 @@ def apart() -> Iterator[Made]:
     for rule, (text, _) in BROKEN.items():
         yield made(f"what breaks {rule} lies in the second stretch", f"r600 x{WEEK - 600} {text} r1")
         if rule not in ("B9", "B10"):
-            yield made(f"what breaks {rule} lies in each of two stretches", f"{text} x{2 * WEEK - sum_of(text) + (WEEK if sum_of(text) > 2 * WEEK else 0)} {text}")
+            yield made(f"what breaks {rule} lies in each of two stretches",
+                       f"{text} x{2 * WEEK - sum_of(text) + (WEEK if sum_of(text) > 2 * WEEK else 0)} {text}")
     for gap in (1, 600):
-        what = f"2,700 and 2,701 minutes of driving in two weeks with a gap of {gap} minutes before the Monday between: B7 isn't found over a gap"
+        what = (f"2,700 and 2,701 minutes of driving in two weeks with a gap of {minutes_text(gap)} before the Monday between: B7 isn't "
+                f"found over a gap")
         yield made(what, f"r360 d2700 r{WEEK - 3060 - gap} x{gap} d2701 r60")
-        what = f"six days without a weekly rest with a gap of {gap} minutes before a Monday between: B8 isn't found over a gap"
+        what = f"six days without a weekly rest with a gap of {minutes_text(gap)} before a Monday between: B8 isn't found over a gap"
         yield made(what, "r4000 " + "w60 r1380 " * 4 + f"w{WEEK - 9760 - gap} x{gap} " + "w60 r1380 " * 3 + "w60 r600")
     for gap in (0, 60):
-        owing = laid([(4 * DAY, 1440)], 2 * WEEK - max(gap, 1), NO_ROOM) + (f" x{gap}" if gap else " w1")
-        paying = laid([(DAY, 3960)], WEEK, NO_ROOM)
-        what = "a debt is paid only within its stretch: a gap comes before the rest that has room for it" if gap else "a debt is paid in its stretch, without a gap"
+        owing = laid([(4 * DAY, 1440)], 2 * WEEK - max(gap, 1), SHORT) + (f" x{gap}" if gap else " w1")
+        paying = laid([(DAY, 3960)], WEEK, SHORT)
+        what = "a debt is paid only within its stretch: " + ("a gap comes before the rest that has room for it" if gap else "without a gap")
         yield made(what, f"{owing} {paying}")
     yield made("nine days without a rest, of which each stretch sees a part", f"d240 r45 x{WEEK - 285} d271 r600 x{WEEK - 871} d271")
 

@@ -30,18 +30,24 @@ def heads() -> Iterator[Made]:
     """Heads that are one, and that aren't."""
     for text, what in (
         (b"", "an empty text has no head"), (b"\n", "a text of one end of line has no head"), (b"start,past\n", "the head lacks a column"),
-        (b"start,past,activity,\n", "the head has a fourth column without a name"), (b"start, past,activity\n", "a blank is part of a column's name"),
+        (b"start,past,activity,\n", "the head has a fourth column without a name"),
+        (b"start, past,activity\n", "a blank is part of a column's name"),
         (b"Start,past,activity\n", "a column's name has a capital"), (b"start;past;activity\n", "the columns are separated by semicolons"),
         (b"past,start,activity\n", "two columns are exchanged"), (MARK + MARK + HEAD, "a second byte order mark is part of the first name"),
-        (b"\n" + MARK + HEAD, "a byte order mark after an end of line is part of the first name"), (b"start,past,activity,author\n", "the longer head lacks its last column"),
-        (COLUMNS, "the head is that of a driver"), (b" " + HEAD, "a blank comes before the first name"), (MARK, "a byte order mark alone has no head"),
+        (b"\n" + MARK + HEAD, "a byte order mark after an end of line is part of the first name"),
+        (b"start,past,activity,author\n", "the longer head lacks its last column"),
+        (COLUMNS, "the head is that of a driver"), (b" " + HEAD, "a blank comes before the first name"),
+        (MARK, "a byte order mark alone has no head"),
         (b"start\tpast\tactivity\n", "the columns are separated by tabs"), (b"\xff\xfes\0t\0", "the text is UTF-16"),
     ):
         yield hours("E1", what, "fault E1", text)
     for text, what in (
-        (HEAD, "a head alone enters nothing"), (HEAD[:-1], "a head without an end of line enters nothing"), (SIGNED, "the longer head alone enters nothing"),
-        (MARK + HEAD + REST, "one byte order mark is skipped"), (MARK + SIGNED[:-1], "one byte order mark before the longer head is skipped"),
-        (b'"start","past","activity"\n' + REST, "quotes around names are no part of them"), (b"\r\n\n\r" + HEAD + REST, "empty lines before the head are no records"),
+        (HEAD, "a head alone enters nothing"), (HEAD[:-1], "a head without an end of line enters nothing"),
+        (SIGNED, "the longer head alone enters nothing"),
+        (MARK + HEAD + REST, "one byte order mark is skipped"),
+        (MARK + SIGNED[:-1], "one byte order mark before the longer head is skipped"),
+        (b'"start","past","activity"\n' + REST, "quotes around names are no part of them"),
+        (b"\r\n\n\r" + HEAD + REST, "empty lines before the head are no records"),
         (b'"start",past,"activity"\r' + REST, "some names are quoted, and the line ends in CR"),
     ):
         yield hours("CSV", what, "read", text)
@@ -50,27 +56,39 @@ def heads() -> Iterator[Made]:
 def records() -> Iterator[Made]:
     """Ends of lines, and quotes."""
     text = HEAD + REST + WORK
-    for end, name in ((b"\n", "LF"), (b"\r", "CR"), (b"\r\n", "CR LF"), (b"\n\r", "LF CR"), (b"\n\n", "two LF"), (b"\r\n\r\n", "two CR LF")):
+    for end, name in ((b"\n", "LF"), (b"\r", "CR"), (b"\r\n", "CR LF"), (b"\n\r", "LF CR"), (b"\n\n", "two LF"),
+                      (b"\r\n\r\n", "two CR LF")):
         yield hours("CSV", f"lines end in {name}, and an empty line is no record", "read", text.replace(b"\n", end))
         yield hours("CSV", f"lines end in {name} but for the last, which has no end", "read", text.replace(b"\n", end).rstrip(b"\r\n"))
     fields = REST[:-1].split(b",")
     for quoted in itertools.product((False, True), repeat=3):
         row = b",".join(b'"' + field + b'"' if is_quoted else field for field, is_quoted in zip(fields, quoted))
-        yield hours("CSV", f"fields in quotes are the same fields: {', '.join('quoted' if is_quoted else 'plain' for is_quoted in quoted)}", "read", HEAD + row)
+        yield hours("CSV", f"fields in quotes are the same fields: {', '.join('quoted' if is_quoted else 'plain' for is_quoted in quoted)}",
+                    "read", HEAD + row)
     for field, what, claim in (
-        (b'"re"st', "what follows the closing quote belongs to the field", "read"), (b'""rest', "an empty quoted part comes before the text", "read"),
-        (b'"rest', "a field whose quote isn't closed goes to the end of the text", "read"), (b're"st', "a quote later in a field is a byte like any other", "fault E6"),
-        (b'rest"', "a quote at the end of a field is a byte like any other", "fault E6"), (b'"rest""', "two quotes in a quoted field mean one", "fault E6"),
-        (b'"rest" ', "a blank after the closing quote belongs to the field", "fault E6"), (b' "rest"', "a blank before a quote makes it a byte like any other", "fault E6"),
-        (b'"re""st"', "two quotes in the middle mean one", "fault E6"), (b'"rest\n"', "an end of line in quotes is part of the field", "fault E6"),
+        (b'"re"st', "what follows the closing quote belongs to the field", "read"),
+        (b'""rest', "an empty quoted part comes before the text", "read"),
+        (b'"rest', "a field whose quote isn't closed goes to the end of the text", "read"),
+        (b're"st', "a quote later in a field is a byte like any other", "fault E6"),
+        (b'rest"', "a quote at the end of a field is a byte like any other", "fault E6"),
+        (b'"rest""', "two quotes in a quoted field mean one", "fault E6"),
+        (b'"rest" ', "a blank after the closing quote belongs to the field", "fault E6"),
+        (b' "rest"', "a blank before a quote makes it a byte like any other", "fault E6"),
+        (b'"re""st"', "two quotes in the middle mean one", "fault E6"),
+        (b'"rest\n"', "an end of line in quotes is part of the field", "fault E6"),
         (b'"rest,"', "a comma in quotes is part of the field", "fault E6"),
     ):
         rule = "CSV" if claim == "read" else "E6"
         yield hours(rule, what, claim, HEAD + REST.replace(b"rest\n", field))
     for row, what in (
-        (b" \n", "a line with a blank is a record of one field"), (b'""\n', "a line with two quotes is a record of one empty field"), (b",\n", "a line with a comma has two fields"),
-        (b",,,\n", "a line with three commas has four fields"), (REST[:-1] + b",\n", "a comma at the end makes a fourth field"), (b"2024-03-04 00:00,2024-03-04 12:00\n", "the activity is missing"),
-        (b'"' + REST, "a quote that isn't closed makes one field of the row"), (REST[:-1] + b",a,b\n", "the row has the fields of the longer head"),
+        (b" \n", "a line with a blank is a record of one field"),
+        (b'""\n', "a line with two quotes is a record of one empty field"),
+        (b",\n", "a line with a comma has two fields"),
+        (b",,,\n", "a line with three commas has four fields"),
+        (REST[:-1] + b",\n", "a comma at the end makes a fourth field"),
+        (b"2024-03-04 00:00,2024-03-04 12:00\n", "the activity is missing"),
+        (b'"' + REST, "a quote that isn't closed makes one field of the row"),
+        (REST[:-1] + b",a,b\n", "the row has the fields of the longer head"),
     ):
         yield hours("E2", what, "fault E2", HEAD + row)
         yield hours("E2", f"in the third row, after a good one, {what}", "fault E2", HEAD + REST + b"\n" + row)
@@ -82,18 +100,26 @@ def times() -> Iterator[Made]:
     """Times at their limits."""
     good = "2024-03-04 12:00"
     for text, what in (
-        ("2024-03-04", "a day alone"), ("2024-03-04 24:00", "24:00"), ("2024-03-04 12:60", "minute 60"), ("2024-03-04 25:00", "hour 25"), ("2024-02-30 12:00", "30 February"),
-        ("2023-02-29 12:00", "29 February of a year that has none"), ("2024-13-01 12:00", "month 13"), ("2024-00-01 12:00", "month 0"), ("2024-03-00 12:00", "day 0"),
-        ("2024-3-4 12:00", "month and day of one digit"), ("2024-03-04T12:00", "a T between day and time"), ("2024-03-04  12:00", "two blanks"), ("2024-03-04 12:00:00", "seconds"),
-        ("2024-03-04 9:00", "an hour of one digit"), (" 2024-03-04 12:00", "a blank before"), ("2024-03-04 12:00 ", "a blank after"), ("04/03/2024 12:00", "the order of day, month and year"),
-        ("2024-03-04 12.00", "a full stop between hour and minute"), ("2000-01-02 12:00", "the day before the first that is read"), ("2100-01-01 00:00", "the day after the last that is read"), ("", "nothing"),
+        ("2024-03-04", "a day alone"), ("2024-03-04 24:00", "24:00"), ("2024-03-04 12:60", "minute 60"),
+        ("2024-03-04 25:00", "hour 25"), ("2024-02-30 12:00", "30 February"),
+        ("2023-02-29 12:00", "29 February of a year that has none"), ("2024-13-01 12:00", "month 13"),
+        ("2024-00-01 12:00", "month 0"), ("2024-03-00 12:00", "day 0"),
+        ("2024-3-4 12:00", "month and day of one digit"), ("2024-03-04T12:00", "a T between day and time"),
+        ("2024-03-04  12:00", "two blanks"), ("2024-03-04 12:00:00", "seconds"),
+        ("2024-03-04 9:00", "an hour of one digit"), (" 2024-03-04 12:00", "a blank before"),
+        ("2024-03-04 12:00 ", "a blank after"), ("04/03/2024 12:00", "the order of day, month and year"),
+        ("2024-03-04 12.00", "a full stop between hour and minute"),
+        ("2000-01-02 12:00", "the day before the first that is read"),
+        ("2100-01-01 00:00", "the day after the last that is read"), ("", "nothing"),
         ("2024-03-04 1\u0662:00", "a digit of another alphabet"), ("+024-03-04 12:00", "a sign"),
+        ("2024-W10-1 12:00", "a week and its day"),
     ):
         yield hours("E3", f"a start with {what}", "fault E3", HEAD + f"{text},2099-12-31 23:59,rest\n".encode())
         if text not in ("2000-01-02 12:00",):
             yield hours("E3", f"a past with {what}", "fault E3", HEAD + f"{good},{text},rest\n".encode())
     for start, past, what in (
-        ("2000-01-03 00:00", "2000-01-03 00:01", "the first minute that is read"), ("2099-12-31 23:58", "2099-12-31 23:59", "the last past that can be written"),
+        ("2000-01-03 00:00", "2000-01-03 00:01", "the first minute that is read"),
+        ("2099-12-31 23:58", "2099-12-31 23:59", "the last past that can be written"),
         ("2024-02-29 23:59", "2024-03-01 00:00", "the last minute of a leap day"), ("2024-03-04 00:00", "2024-03-04 00:01", "one minute"),
         ("2000-02-29 00:00", "2000-02-29 12:00", "29 February of 2000, a leap year"),
     ):
@@ -107,10 +133,14 @@ def orders() -> Iterator[Made]:
         yield hours("CSV" if is_good else "E4", f"a row from {start} to {past}", "read" if is_good else "fault E4", text)
     for start, is_good in (("11:59", False), ("12:00", True), ("12:01", True)):
         text = HEAD + REST + f"2024-03-04 {start},2024-03-04 13:00,work\n".encode()
-        yield hours("CSV" if is_good else "E4", f"a row ends at 12:00, and the next starts at {start}", "read" if is_good else "fault E4", text)
+        yield hours("CSV" if is_good else "E4", f"a row ends at 12:00, and the next starts at {start}", "read" if is_good else "fault E4",
+                    text)
     for past, is_good in (("2024-12-31 23:59", True), ("2025-01-01 00:00", True), ("2025-01-01 00:01", False)):
         text = HEAD + f"2024-01-01 00:00,{past},rest\n".encode()
-        yield hours("CSV" if is_good else "E7", f"a row from 2024-01-01 00:00 to {past}, where it may have 527,040 minutes", "read" if is_good else "fault E7", text)
+        yield hours("CSV" if is_good else "E7", f"a row from 2024-01-01 00:00 to {past}, where it may have 527,040 minutes",
+                    "read" if is_good else "fault E7", text)
+    yield hours("E4", "a row starts before the past of the row before, and after that of the first", "fault E4",
+                HEAD + REST + WORK + b"2024-03-04 12:30,2024-03-04 14:00,rest\n")
     yield hours("CSV", "two rows of one activity that touch stay two", "read", HEAD + REST + WORK.replace(b"work", b"rest"))
 
 
@@ -133,23 +163,32 @@ def authors() -> Iterator[Made]:
 
     o = "\u00f6".encode()
     for author, what, is_good in (
-        (b"b", "of one byte", True), (64 * b"a", "of 64 bytes", True), (65 * b"a", "of 65 bytes", False), (32 * o, "of 32 letters with 64 bytes", True),
-        (32 * o + b"a", "of 33 letters with 65 bytes", False), (b"", "of no byte", False), (b" ", "of a blank", True), (b"a\tb", "with a tab", False), (b"a\x1fb", "with byte 31", False),
-        (b"a\x7fb", "with byte 127", False), (b"a\xc2\x80b", "with U+0080", True), (b"a\xffb", "that isn't UTF-8", False), (b'"a,b"', "with a comma", False), (b'"a""b"', "with a double quote", False),
+        (b"b", "of one byte", True), (64 * b"a", "of 64 bytes", True), (65 * b"a", "of 65 bytes", False),
+        (32 * o, "of 32 letters with 64 bytes", True),
+        (32 * o + b"a", "of 33 letters with 65 bytes", False), (b"", "of no byte", False), (b" ", "of a blank", True),
+        (b"a\tb", "with a tab", False), (b"a\x1fb", "with byte 31", False),
+        (b"a\x7fb", "with byte 127", False), (b"a\xc2\x80b", "with U+0080", True),
+        (b"a\xffb", "that isn't UTF-8", False), (b'"a,b"', "with a comma", False),
+        (b'"a""b"', "with a double quote", False),
         (b"a\xc3", "that ends within a letter", False), (b"'a;b'", "with a semicolon and single quotes", True),
     ):
         yield hours("CSV" if is_good else "E10", f"an author {what}", "read" if is_good else "fault E10", signed(author, b"note"))
     for note, what, is_good in (
-        (b"", "of no byte", True), (200 * b"n", "of 200 bytes", True), (201 * b"n", "of 201 bytes", False), (100 * o, "of 100 letters with 200 bytes", True),
-        (100 * o + b"n", "of 101 letters with 201 bytes", False), (b"a\x1f", "with byte 31", False), (b"a\x7f", "with byte 127", False), (b'"a,b"', "with a comma", False),
-        (b'"a\r\nb"', "with an end of line", False), (b"\0", "of byte 0", False), (b"\x80", "that isn't UTF-8", False), (b'"a b"', "in quotes", True),
+        (b"", "of no byte", True), (200 * b"n", "of 200 bytes", True), (201 * b"n", "of 201 bytes", False),
+        (100 * o, "of 100 letters with 200 bytes", True),
+        (100 * o + b"n", "of 101 letters with 201 bytes", False), (b"a\x1f", "with byte 31", False),
+        (b"a\x7f", "with byte 127", False), (b'"a,b"', "with a comma", False),
+        (b'"a\r\nb"', "with an end of line", False), (b"\0", "of byte 0", False), (b"\x80", "that isn't UTF-8", False),
+        (b'"a b"', "in quotes", True),
     ):
         yield hours("CSV" if is_good else "E10", f"a note {what}", "read" if is_good else "fault E10", signed(b"Eva Lund", note))
 
 
 FAULTY = {
-    "E2": b"2024-03-04 00:00,2024-03-04 12:00\n", "E3": b"2024-03-04,2024-03-04 12:00,rest,a,b\n", "E4": b"2024-03-04 12:00,2024-03-04 12:00,rest,a,b\n",
-    "E5": b"2024-03-04 00:00,2024-03-04 12:00,crew,a,b\n", "E6": b"2024-03-04 00:00,2024-03-04 12:00,lunch,a,b\n", "E7": b"2024-01-01 00:00,2025-01-01 00:01,rest,a,b\n",
+    "E2": b"2024-03-04 00:00,2024-03-04 12:00\n", "E3": b"2024-03-04,2024-03-04 12:00,rest,a,b\n",
+    "E4": b"2024-03-04 12:00,2024-03-04 12:00,rest,a,b\n",
+    "E5": b"2024-03-04 00:00,2024-03-04 12:00,crew,a,b\n", "E6": b"2024-03-04 00:00,2024-03-04 12:00,lunch,a,b\n",
+    "E7": b"2024-01-01 00:00,2025-01-01 00:01,rest,a,b\n",
     "E10": b"2024-03-04 00:00,2024-03-04 12:00,rest,,b\n",
 }
 
@@ -158,15 +197,22 @@ def first_faults() -> Iterator[Made]:
     """Two faults, of which the first is reported."""
     for one, other in itertools.permutations(FAULTY, 2):
         if (int(one[1:]) + int(other[1:])) % 2:
-            yield hours(one, f"row 2 has {one} and row 3 {other}: the earlier row is reported", f"fault {one}", SIGNED + FAULTY[one] + FAULTY[other])
+            yield hours(one, f"row 2 has {one} and row 3 {other}: the earlier row is reported", f"fault {one}",
+                        SIGNED + FAULTY[one] + FAULTY[other])
     same_row = [
-        ("E3", "E4", b"2024-03-04 12:00,2024-03-03 24:00,rest,a,b\n"), ("E3", "E5", b"2024-03-04,2024-03-05 00:00,crew,a,b\n"), ("E4", "E5", b"2024-03-04 12:00,2024-03-04 12:00,crew,a,b\n"),
-        ("E4", "E6", b"2024-03-04 12:00,2024-03-04 11:00,lunch,a,b\n"), ("E5", "E7", b"2024-01-01 00:00,2025-01-01 00:01,ferry,a,b\n"), ("E6", "E7", b"2024-01-01 00:00,2025-01-01 00:01,lunch,a,b\n"),
-        ("E7", "E10", b"2024-01-01 00:00,2025-01-01 00:01,rest,,b\n"), ("E2", "E3", b"2024-03-04,2024-03-05,rest,a\n"), ("E6", "E10", b"2024-03-04 00:00,2024-03-04 12:00,lunch,,b\n"),
+        ("E3", "E4", b"2024-03-04 12:00,2024-03-03 24:00,rest,a,b\n"),
+        ("E3", "E5", b"2024-03-04,2024-03-05 00:00,crew,a,b\n"),
+        ("E4", "E5", b"2024-03-04 12:00,2024-03-04 12:00,crew,a,b\n"),
+        ("E4", "E6", b"2024-03-04 12:00,2024-03-04 11:00,lunch,a,b\n"),
+        ("E5", "E7", b"2024-01-01 00:00,2025-01-01 00:01,ferry,a,b\n"),
+        ("E6", "E7", b"2024-01-01 00:00,2025-01-01 00:01,lunch,a,b\n"),
+        ("E7", "E10", b"2024-01-01 00:00,2025-01-01 00:01,rest,,b\n"), ("E2", "E3", b"2024-03-04,2024-03-05,rest,a\n"),
+        ("E6", "E10", b"2024-03-04 00:00,2024-03-04 12:00,lunch,,b\n"),
     ]
     for one, other, row in same_row:
         yield hours(one, f"a row has {one} and {other}: the lesser number is reported", f"fault {one}", SIGNED + row)
-    yield hours("E10", "a row has a bad author and a bad note: the author is reported", "fault E10", SIGNED + REST[:-1] + b",," + 201 * b"n" + b"\n")
+    yield hours("E10", "a row has a bad author and a bad note: the author is reported", "fault E10",
+                SIGNED + REST[:-1] + b",," + 201 * b"n" + b"\n")
 
 
 def of_anna(column: int, value: str | bytes, after: bytes = b"") -> bytes:
@@ -179,18 +225,31 @@ def of_anna(column: int, value: str | bytes, after: bytes = b"") -> bytes:
 def drivers() -> Iterator[Made]:
     """Drivers by each of their columns."""
     good: list[tuple[int, str | bytes, str]] = [
-        (0, "1", "the number 1"), (0, "999999", "the number 999999"), (1, "0" * 30, "a holder of zeros"), (1, "f" * 30, "a holder of the digit f"), (2, "k" * 8, "a key of 8 letters"),
-        (2, "k" * 64, "a key of 64 letters"), (2, "-" * 8, "a key of hyphens"), (2, "Key-0019", "a key with a capital"), (3, "2000-01-03", "the base 2000-01-03"), (3, "2099-12-28", "the base 2099-12-28"),
-        (4, "a", "a name of one byte"), (4, "a" * 64, "a name of 64 bytes"), (4, 32 * "\u00c5", "a name of 32 letters with 64 bytes"), (4, '"Anna Berg"', "a name in quotes"), (4, " ", "a name of a blank"),
+        (0, "1", "the number 1"), (0, "999999", "the number 999999"), (1, "0" * 30, "a holder of zeros"),
+        (1, "f" * 30, "a holder of the digit f"), (2, "k" * 8, "a key of 8 letters"),
+        (2, "k" * 64, "a key of 64 letters"), (2, "-" * 8, "a key of hyphens"), (2, "Key-0019", "a key with a capital"),
+        (3, "2000-01-03", "the base 2000-01-03"), (3, "2099-12-28", "the base 2099-12-28"),
+        (4, "a", "a name of one byte"), (4, "a" * 64, "a name of 64 bytes"),
+        (4, 32 * "\u00c5", "a name of 32 letters with 64 bytes"), (4, '"Anna Berg"', "a name in quotes"),
+        (4, " ", "a name of a blank"),
     ]
     for column, value, what in good:
         yield driver("CSV", f"{what} is within its limits", "read", of_anna(column, value))
     bad: list[tuple[int, str | bytes, str]] = [
-        (0, "0", "the number 0"), (0, "1000000", "the number 1000000"), (0, "017", "a number with a zero in front"), (0, "+17", "a number with a sign"), (0, "", "no number"), (0, "17 ", "a blank after the number"),
-        (0, "1e1", "a number with a letter"), (1, "0" * 29, "a holder of 29 digits"), (1, "0" * 31, "a holder of 31 digits"), (1, HOLDER.upper(), "a holder with a capital"), (1, "g" * 30, "a holder with the letter g"),
-        (2, "k" * 7, "a key of 7 letters"), (2, "k" * 65, "a key of 65 letters"), (2, "anna_key_1", "a key with an underscore"), (2, "anna key 1", "a key with blanks"), (2, "\u00e5" * 8, "a key with other letters"),
-        (3, "2024-02-30", "the base 30 February"), (3, "2000-01-02", "the base 2000-01-02"), (3, "2100-01-04", "the base 2100-01-04"), (3, "2024-3-4", "a base of another shape"), (3, "2024-03-04 00:00", "a base with a time"),
-        (4, "", "no name"), (4, "a" * 65, "a name of 65 bytes"), (4, 33 * "\u00c5", "a name of 33 letters with 66 bytes"), (4, '"Berg, Anna"', "a name with a comma"), (4, '"a""b"', "a name with a double quote"),
+        (0, "0", "the number 0"), (0, "1000000", "the number 1000000"), (0, "017", "a number with a zero in front"),
+        (0, "+17", "a number with a sign"), (0, "", "no number"), (0, "17 ", "a blank after the number"),
+        (0, "1e1", "a number with a letter"), (1, "0" * 29, "a holder of 29 digits"),
+        (1, "0" * 31, "a holder of 31 digits"), (1, HOLDER.upper(), "a holder with a capital"),
+        (1, "g" * 30, "a holder with the letter g"),
+        (2, "k" * 7, "a key of 7 letters"), (2, "k" * 65, "a key of 65 letters"),
+        (2, "anna_key_1", "a key with an underscore"), (2, "anna key 1", "a key with blanks"),
+        (2, "\u00e5" * 8, "a key with other letters"),
+        (3, "2024-02-30", "the base 30 February"), (3, "2000-01-02", "the base 2000-01-02"),
+        (3, "2100-01-04", "the base 2100-01-04"), (3, "2024-3-4", "a base of another shape"),
+        (3, "2024-03-04 00:00", "a base with a time"),
+        (4, "", "no name"), (4, "a" * 65, "a name of 65 bytes"),
+        (4, 33 * "\u00c5", "a name of 33 letters with 66 bytes"), (4, '"Berg, Anna"', "a name with a comma"),
+        (4, '"a""b"', "a name with a double quote"),
         (4, '"a\nb"', "a name with an end of line"), (4, b"\xff", "a name that isn't UTF-8"), (4, "a\x7f", "a name with byte 127"),
     ]
     for column, value, what in bad:
@@ -200,17 +259,26 @@ def drivers() -> Iterator[Made]:
     for column, other in ((0, 1), (1, 2), (2, 3), (3, 4), (0, 4)):
         fields = list(ANNA)
         fields[column] = fields[other] = "?" if 4 not in (column, other) else '"?,"'
-        yield driver("E9", f"two columns are wrong, and the leftmost, {DRIVER_HEAD[column].decode()}, is reported", "fault E9", COLUMNS + ",".join(fields).encode())
+        yield driver("E9", f"two columns are wrong, and the leftmost, {DRIVER_HEAD[column].decode()}, is reported", "fault E9",
+                     COLUMNS + ",".join(fields).encode())
 
 
 def driver_rows() -> Iterator[Made]:
     """Heads and rows of a driver."""
     row = ",".join(ANNA).encode() + b"\n"
-    for text, what in ((b"", "an empty text"), (b"driver,holder,key,base\n", "a head that lacks a column"), (HEAD + REST, "the head of hours"), (COLUMNS.replace(b"name", b"Name") + row, "a name with a capital"), (row, "no head")):
+    for text, what in ((b"", "an empty text"), (b"driver,holder,key,base\n", "a head that lacks a column"),
+                       (HEAD + REST, "the head of hours"), (COLUMNS.replace(b"name", b"Name") + row, "a name with a capital"),
+                       (row, "no head")):
         yield driver("E1", f"{what} isn't the head of a driver", "fault E1", text)
-    for text, what in ((COLUMNS, "there is no row 2"), (COLUMNS + row[:-11] + b"\n", "row 2 has four fields"), (COLUMNS + row[:-1] + b",\n", "row 2 has six fields"), (COLUMNS + row + row, "there is a row 3"), (COLUMNS + row + b" \n", "row 3 is a blank")):
+    for text, what in ((COLUMNS, "there is no row 2"), (COLUMNS + row[:-11] + b"\n", "row 2 has four fields"),
+                       (COLUMNS + row[:-1] + b",\n", "row 2 has six fields"), (COLUMNS + row + row, "there is a row 3"),
+                       (COLUMNS + row + b" \n", "row 3 is a blank")):
         yield driver("E2", what, "fault E2", text)
-    for text, what in ((COLUMNS + row + b"\n\r\n", "empty lines after row 2 are no rows"), (MARK + COLUMNS + row, "a byte order mark is skipped"), (COLUMNS.replace(b"\n", b"\r\n") + b"\r\n" + row[:-1], "an empty line before row 2 is none")):
+    for third, what in ((b"0" + row, "is wrong too"), (row[2:], "lacks a field")):
+        yield driver("E2", f"row 2 is a driver, and row 3 {what}", "fault E2", COLUMNS + row + third)
+    for text, what in ((COLUMNS + row + b"\n\r\n", "empty lines after row 2 are no rows"),
+                       (MARK + COLUMNS + row, "a byte order mark is skipped"),
+                       (COLUMNS.replace(b"\n", b"\r\n") + b"\r\n" + row[:-1], "an empty line before row 2 is none")):
         yield driver("CSV", what, "read", text)
     yield driver("E9", "row 2 is wrong, and there is a row 3: E9 comes before E2 of row 3", "fault E9", of_anna(0, "0", row))
 

@@ -5,14 +5,14 @@ from collections.abc import Iterator
 
 from inputs import hard_timelines, vector_days, vector_rests
 from inputs.vector_days import (
-    BASE, DAY, FIVE_DAYS, REDUCED, WEEK, day_driven, given_of, judged, length_of, made, spans_of, why_of,
+    BASE, DAY, FIVE_DAYS, REDUCED, WEEK, day_driven, given_of, judged, length_of, made, minutes_text, spans_of, why_of,
 )
-from inputs.vector_rests import NO_ROOM, laid
+from inputs.vector_rests import laid
 from lib.vector_sets import Given, Made
 from slow import slow_rules
 
 # For each rule a timeline that breaks it, and the first horizon, in minutes after the base, at which it shows.
-OWING = laid([(4 * DAY, 1440), *[(WEEK * week + DAY, 2700) for week in (1, 2, 3)]], 4 * WEEK + 600, NO_ROOM)
+OWING = laid([(4 * DAY, 1440), *[(WEEK * week + DAY, 2700) for week in (1, 2, 3)]], 4 * WEEK + 600)
 BROKEN = {
     "B1": ("r360 d300 r600", 360 + 271),
     "B2": ("r360 w930 r700", 360 + 901),
@@ -25,7 +25,8 @@ BROKEN = {
     "B9": (laid([], 2 * WEEK + 600), 2 * WEEK),
     "B10": (OWING, 4 * WEEK),
 }
-NEXT = {"nothing is held after it": "", "a minute isn't held": "x1 w1", "a minute has a second driver": "wc1 r1", "driving with a second driver": "dc600 r60"}
+NEXT = {"nothing is held after it": "", "a minute isn't held": "x1 w1", "a minute has a second driver": "wc1 r1",
+        "driving with a second driver": "dc600 r60"}
 
 
 def cut(text: str, past: int) -> str:
@@ -54,7 +55,8 @@ def reasons() -> Iterator[Made]:
     for place in (0, 1, 600, DAY, WEEK - 1, WEEK, WEEK + 1):
         before = f"r{place} " if place else ""
         where = f"minute {place} after the base"
-        for later, claim in (("", "unknown"), ("x1 r600", "unknown"), ("rc1 r600", "crew"), ("dc1", "crew"), ("x5000 dc60 d300", "unknown")):
+        for later, claim in (("", "unknown"), ("x1 r600", "unknown"), ("rc1 r600", "crew"), ("dc1", "crew"),
+                             ("x5000 dc60 d300", "unknown")):
             if place or later:
                 what = {"unknown": "isn't held", "crew": "has a second driver"}[claim]
                 yield made("reason", "B1", f"{where} is the first that {what}, and minutes after it don't count", claim, before + later)
@@ -63,7 +65,8 @@ def reasons() -> Iterator[Made]:
         yield made("reason", "B1", what, "unknown", f"x60 {letters}")
     whole = given_of("r360 d271 r600 x600 d271 r600")
     order = [whole["spans"][2], whole["spans"][0], whole["spans"][1], *whole["spans"][:2:-1]]
-    yield Made("reason", why_of("B1", "the spans are given in another order of time", "breach"), "B1", "breach", {"base": BASE, "spans": order})
+    yield Made("reason", why_of("B1", "the spans are given in another order of time", "breach"), "B1", "breach",
+               {"base": BASE, "spans": order})
     yield Made("reason", why_of("B1", "nothing is held at all", "unknown"), "B1", "unknown", {"base": BASE, "spans": []})
 
 
@@ -86,7 +89,8 @@ def bases() -> Iterator[Made]:
             for weeks in (0, 1):
                 given = later(given_of(f"r{before} {text}"), weeks)
                 where = f"{shift} days before the second Monday"
-                what = f"what breaks the rule begins {where}, and the base is the {('first', 'second')[weeks]} Monday, before which all counts as rest"
+                what = (f"what breaks the rule begins {where}, and the base is the {('first', 'second')[weeks]} Monday, before "
+                        f"which all counts as rest")
                 claim = judged(is_broken(rule, given))
                 yield Made("base", why_of(rule, what, claim), rule, claim, given)
     for more in (-60, -1, 0, 1, 60):
@@ -94,7 +98,8 @@ def bases() -> Iterator[Made]:
         given = later(given_of(text), 1)
         given["spans"] = spans_of(f"r{WEEK - 271 + more} d271 r600", BASE)
         inside = max(0, more)
-        what = f"271 minutes of driving end {abs(more)} minutes {'after' if more >= 0 else 'before'} the base, so {inside} of them are examined"
+        what = (f"271 minutes of driving end {minutes_text(abs(more))} {'after' if more >= 0 else 'before'} the base, so {inside} of "
+                f"them are examined")
         yield Made("base", why_of("B1", what, "no breach"), "B1", "no breach", given)
 
 
@@ -178,7 +183,8 @@ def chained_year() -> str:
 
 def years() -> Iterator[Made]:
     """Timelines of 52 weeks, the one that is examined fastest first."""
-    yield made("year", "B9", "a year of 52 weeks whose rests lie over the ends of weeks, and some of them are missing", "breach", chained_year())
+    yield made("year", "B9", "a year of 52 weeks whose rests lie over the ends of weeks, and some of them are missing", "breach",
+               chained_year())
     yield made("year", "B9", "a quiet year of 52 weeks, each with two days off", "no breach", quiet_year())
     yield made("year", "B4", "a year of 52 weeks with two days of more than ten hours of driving in each", "breach", long_year())
 

@@ -129,7 +129,8 @@ def module_of(path: str, tree: ast.Module, place: int, top: ast.stmt) -> types.M
     return module
 
 
-def changed_places(top: ast.stmt, kinds: Callable[[ast.AST], Iterator[ast.AST]], apart: Collection[str]) -> Iterator[tuple[Change, ast.stmt]]:
+def changed_places(top: ast.stmt, kinds: Callable[[ast.AST], Iterator[ast.AST]],
+                   apart: Collection[str]) -> Iterator[tuple[Change, ast.stmt]]:
     """Each change of a statement, and the statement as it is then."""
     for place, (name, told, node) in enumerate(places_of(top)):
         if name in apart:

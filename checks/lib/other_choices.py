@@ -4,7 +4,7 @@ import functools
 from collections import namedtuple
 from types import SimpleNamespace
 
-from lib import changes, vector_sets
+from lib import changes, vector_changes, vector_sets
 
 # A choice: its tag, the slow program that it is made in, and the texts that are replaced to choose otherwise.
 Choice = namedtuple("Choice", "tag program pairs")
@@ -64,14 +64,17 @@ CHOICES = [
     ]),
     # The first pair of weeks is that of the base's week and the next.
     Choice("pair-before-base", "rules", [
-        ("for week in weeks_around(base, past):\n        above = over(line, limit", "for week in range(week_of(base), week_of(past) + 3):\n        above = over(line, limit"),
+        ("for week in weeks_around(base, past):\n        above = over(line, limit",
+         "for week in range(week_of(base), week_of(past) + 3):\n        above = over(line, limit"),
     ]),
     # The first rest and the last are no weekly rests for B3, B8 and B9.
     Choice("first-and-last-rest", "rules", [
         (f"weekly = max({WEEKLY} if is_before(run, rest))",
          f"weekly = max(({WEEKLY} if 0 < run.start and is_before(run, rest)), default=Run(0, 0))"),
-        ("for one, next_one in neighbours(weekly_rests(runs))", f"for one, next_one in neighbours([{WEEKLY} if 0 < run.start and run.past < FAR])"),
-        (f"[{WEEKLY} if weeks_touched(run, first, last)]", f"[{WEEKLY} if 0 < run.start and run.past < FAR and weeks_touched(run, first, last)]"),
+        ("for one, next_one in neighbours(weekly_rests(runs))",
+         f"for one, next_one in neighbours([{WEEKLY} if 0 < run.start and run.past < FAR])"),
+        (f"[{WEEKLY} if weeks_touched(run, first, last)]",
+         f"[{WEEKLY} if 0 < run.start and run.past < FAR and weeks_touched(run, first, last)]"),
     ]),
     # For debts a rest belongs to the week in which it ends, as far as it is known.
     Choice("debt-in-week-of-start", "rules", [
@@ -98,11 +101,13 @@ CHOICES = [
     Choice("main-rest-keeps-45", "rules", [("        return 2700\n", "        return 540\n")]),
     # The newest debt is given its rest first.
     Choice("oldest-debt-first", "rules", [
-        ("for week in weeks_around(base, horizon):\n        amount = owed", "for week in reversed(weeks_around(base, horizon)):\n        amount = owed"),
+        ("for week in weeks_around(base, horizon):\n        amount = owed",
+         "for week in reversed(weeks_around(base, horizon)):\n        amount = owed"),
         ("    return debts\n", "    return sorted(debts)\n"),
     ]),
     # Only rests of later weeks pay.
-    Choice("same-week-pays", "rules", [("return is_before(main, run) and debt.amount", "return run.start >= week_start(debt.week + 1) and debt.amount")]),
+    Choice("same-week-pays", "rules",
+           [("return is_before(main, run) and debt.amount", "return run.start >= week_start(debt.week + 1) and debt.amount")]),
     # No debt is paid before an older one.
     Choice("debts-out-of-turn", "rules", [
         ("if can_pay(runs, horizon, debts, debt, run)]",
@@ -125,13 +130,15 @@ CHOICES = [
     Choice("week-at-rest", "rules", [(f"    return {AT_REST}\n", "    return True\n")]),
     # A rest of more than a week counts in each of its weeks.
     Choice("long-rest-once", "rules", [
-        ("if place in (week, week + 1)]", "if place in (week, week + 1) or minutes_of(rest) > 10080 and weeks_touched(rest, week, week + 1)]"),
+        ("if place in (week, week + 1)]",
+         "if place in (week, week + 1) or minutes_of(rest) > 10080 and weeks_touched(rest, week, week + 1)]"),
     ]),
     # Each later stretch is examined with all that comes before it, and what isn't examined counts as rest.
     Choice("stretch-alone", "office", [
         ("\ndef stretches_of(", FILLED),
         ("        report = report_of_runs(runs, monday)\n        horizon = report[0]\n        monday_after",
-         "        report = report_of_runs(with_rest(runs, 1440 * base, monday), 1440 * base)\n        horizon = report[0]\n        monday_after"),
+         "        report = report_of_runs(with_rest(runs, 1440 * base, monday), 1440 * base)\n"
+         "        horizon = report[0]\n        monday_after"),
     ]),
     # The newest record's last word holds to midnight.
     Choice("last-word", "reader", [("if begun and not (place == newest and begun[-1] == len(words) - 1):", "if begun:")]),
@@ -158,7 +165,9 @@ def tags_for(name: str) -> list[str]:
     return [choice.tag for choice in CHOICES if choice.program == vector_sets.PROGRAM_OF[name]]
 
 
-def tags_of(name: str, given: vector_sets.Given, expected: vector_sets.Answer) -> list[str]:
+WHOLE = {"before-base"}  # the choices about what is examined at all
+
+
+def tags_of(known: vector_changes.Known) -> list[str]:
     """The tags of a case: those of the choices with which it would be answered differently."""
-    answer = vector_sets.ANSWERS[name]
-    return [tag for tag in tags_for(name) if answer(reading_of(tag), given) != expected]
+    return [tag for tag in tags_for(known.name) if known.notices(reading_of(tag), tag in WHOLE)]

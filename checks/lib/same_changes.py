@@ -1,5 +1,5 @@
 """Changes of the slow programs that mean the same as the programs do, with the reasons: the function, the text as it is, and as it is
-changed. No case can notice them."""
+changed; and, where only one of several places with these texts is meant, how many come before it. No case can notice them."""
 
 KNOWN = "min(run.past, end) - run.start"
 WITHIN = "week_start(week) <= minute < week_start(week + 1)"
@@ -49,3 +49,15 @@ RULES = {
     ("owed", "max(0, 2700 - minutes_of(main))", "max(-1, 2700 - minutes_of(main))"),
 }
 
+
+# Of slow_csv.py.
+CSV = {
+    # No minute that is read is 1 or less.
+    ("entries_of", "found[-1][1] if found else 0", "found[-1][1] if found else 1"),
+    ("entries_of", "found[-1][1] if found else 0", "found[-1][1] if found else -1"),
+    # Where a driver is read, there is one row.
+    ("driver_of", "rows[0]", "rows[-1]", 2),
+}
+
+# By the program. Of these there are more kinds: tests of an `if` that always hold, or never, and `in` for `not in`.
+SAME: dict[str, set[tuple[object, ...]]] = {"rules": {*RULES}, "reader": set(), "csv": CSV, "office": set(), "server": set()}

@@ -3,9 +3,11 @@ expect of a case.
 
 An answer is made from what a case gives by modules that are handed in, so that a changed slow program can take the place of one."""
 import contextlib
+import importlib.util
 import json
 import os
 import re
+import sys
 from collections import namedtuple
 from collections.abc import Callable, Iterable, Iterator
 from types import ModuleType, SimpleNamespace
@@ -31,6 +33,17 @@ SLOW = SimpleNamespace(reader=slow_reader, rules=slow_rules, csv=slow_csv, offic
 PROGRAM_OF = {
     "words": "reader", "chains": "reader", "files": "reader", "timelines": "rules", "stretches": "office", "csv": "csv", "http": "server",
 }
+
+
+def runner() -> ModuleType:
+    """The module vectors/run.py, which tests any program."""
+    spec = importlib.util.spec_from_file_location("vectors_run", os.path.join(FOLDER, "run.py"))
+    assert spec and spec.loader
+    module = importlib.util.module_from_spec(spec)
+    writes, sys.dont_write_bytecode = sys.dont_write_bytecode, True  # the folder has no compiled file
+    spec.loader.exec_module(module)
+    sys.dont_write_bytecode = writes
+    return module
 
 
 def with_module(name: str, module: ModuleType) -> SimpleNamespace:
@@ -207,7 +220,7 @@ def answer_driver(csv: ModuleType, text: bytes) -> Answer:
     assert day is not None  # the reader has refused others
     if day % 7 != 4:
         return {"reply": "S9 not a Monday\n", "read": None}
-    return {"reply": f"registered {number.decode()}\n", "read": [int(number), holder.decode(), key.decode(), 1440 * day, name.decode()]}
+    return {"reply": f"registered {number.decode()}\n", "read": [int(number), holder.decode(), 1440 * day, name.decode()]}
 
 
 def answer_csv(slow: SimpleNamespace, given: Given) -> Answer:
