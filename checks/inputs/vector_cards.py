@@ -204,6 +204,10 @@ def broken() -> Iterator[Made]:
         claim = "read" if oldest != 4 else "fault C9"
         rule = CHAIN if claim == "read" else "C9"
         yield made("broken", rule, f"both pointers are {oldest}: only the record there is read", claim, value)
+    for size, claim in ((len(TWO) - 1, "fault C10"), (len(TWO) + 1, "read")):
+        rule = CHAIN if claim == "read" else "C10"
+        value = struct.pack(">HH", 0, len(FIRST)) + (TWO + b"\0")[:size]
+        yield made("broken", rule, f"two records of {len(TWO)} bytes in a buffer of {size}", claim, value)
 
 
 def pointers() -> Iterator[Made]:
@@ -231,6 +235,14 @@ def pointers() -> Iterator[Made]:
     value = struct.pack(">HH", 16, 15) + bytes(16)
     yield made("pointers", "C8", "the pointer to the oldest record is the buffer's length, and the other one is a minute's byte below it",
                "fault C8", value)
+    value = struct.pack(">HH", 0, 0) + FIRST[:2] + bytes(2) + FIRST[4:]
+    yield made("pointers", CHAIN, "both pointers are equal, and the length there is 0, before a date that isn't: no records", "read", value)
+    long = record(0, [0] * 122)
+    yield made("pointers", "C11", f"both pointers are equal, and the length there is {len(long)}, before a date of 0", "fault C11",
+               struct.pack(">HH", 0, 0) + long)
+    for place in (255, 256, 300, 600):
+        yield made("pointers", CHAIN, f"the oldest record begins at {place} in a buffer of 700 bytes, so a pointer has two bytes", "read",
+                   activity_data([FIRST, SECOND], place, 700 - len(TWO)))
     value = struct.pack(">HH", 12, 12) + bytes(11)
     yield made("pointers", "C7", "a value of 15 bytes with pointers out of its buffer: the length is checked first", "fault C7", value)
 
@@ -278,6 +290,10 @@ def sequences() -> Iterator[Made]:
     yield made("sequence", CHAIN, "three records without words give nothing", "read", value)
     value = activity_data([night, record(DAY + 3, [word(0, 0, DRIVE, 100)])], 0, 0)
     yield made("sequence", CHAIN, "the last word of the oldest record holds to midnight, that of the newest gives nothing", "read", value)
+    for count in (121, 122, 200, 720):
+        many = record(DAY, [word(0, 0, turn % 2, 2 * turn) for turn in range(count)])
+        value = activity_data([many, end], 0, 0)
+        yield made("sequence", CHAIN, f"a record of {count} words, whose length is {len(many)}", "read", value)
     for count in (1, 2, 5, 9):
         records = [day_of_work(DAY + turn, (REST, 0), (DRIVE, 480 + turn), (REST, 700)) for turn in range(count)]
         value = activity_data(records, 33, 7)

@@ -174,13 +174,13 @@ def give_up(number: int, frame: object) -> None:
 
 
 def within(seconds: float, call: Callable[[], object]) -> object:
-    """What a call gives within some seconds; whatever it raises is raised, TooLong if it takes longer."""
-    signal.signal(signal.SIGALRM, give_up)
-    signal.setitimer(signal.ITIMER_REAL, seconds)
+    """What a call gives within some seconds of processor time; whatever it raises is raised, TooLong if it takes longer."""
+    signal.signal(signal.SIGVTALRM, give_up)
+    signal.setitimer(signal.ITIMER_VIRTUAL, seconds)
     try:
         return call()
     finally:
-        signal.setitimer(signal.ITIMER_REAL, 0)
+        signal.setitimer(signal.ITIMER_VIRTUAL, 0)
 
 
 # Changes that are written down as texts

@@ -2,6 +2,7 @@
 changed; and, where only one of several places with these texts is meant, how many come before it. No case can notice them."""
 
 KNOWN = "min(run.past, end) - run.start"
+BLOCK_LENGTH = "file[offset + 3] * 256 + file[offset + 4] if value <= len(file) else "
 WITHIN = "week_start(week) <= minute < week_start(week + 1)"
 
 # Of slow_rules.py: limits, comparisons, conditions and signs.
@@ -59,5 +60,15 @@ CSV = {
     ("driver_of", "rows[0]", "rows[-1]", 2),
 }
 
+# Of slow_reader.py.
+READER = {
+    # A length of 11 is odd.
+    ("record_of", "length < 12", "length < 11"),
+    # Of an even number the half of it and one more is the same, rounded down.
+    ("record_of", "length - 12", "length - 11"),
+    # A block whose head goes past the end is truncated, whatever its length is.
+    ("blocks_of", BLOCK_LENGTH + "0", BLOCK_LENGTH + "1"),
+}
+
 # By the program. Of these there are more kinds: tests of an `if` that always hold, or never, and `in` for `not in`.
-SAME: dict[str, set[tuple[object, ...]]] = {"rules": {*RULES}, "reader": set(), "csv": CSV, "office": set(), "server": set()}
+SAME: dict[str, set[tuple[object, ...]]] = {"rules": {*RULES}, "reader": READER, "csv": CSV, "office": set(), "server": set()}
