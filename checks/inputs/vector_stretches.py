@@ -111,6 +111,12 @@ def sum_of(text: str) -> int:
     return sum(int(token.lstrip("rawdxc")) for token in text.split())
 
 
+def at_base() -> Iterator[Made]:
+    """What is held is the base's first minute."""
+    for kind in ("d", "dc"):
+        yield made(f"only the base's first minute is held, as '{kind}'", f"{kind}1")
+
+
 def stretches() -> list[Made]:
     """All cases of stretches."""
-    return [one for maker in (around_mondays, gaps_and_crew, ends, apart) for one in maker()]
+    return [one for maker in (around_mondays, gaps_and_crew, ends, apart, at_base) for one in maker()]

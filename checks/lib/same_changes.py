@@ -70,5 +70,20 @@ READER = {
     ("blocks_of", BLOCK_LENGTH + "0", BLOCK_LENGTH + "1"),
 }
 
+# Of slow_office.py, as far as stretches go.
+OFFICE = {
+    # Only minutes that are held are asked of.
+    (
+        "is_start",
+        "(minute - 1440 * 4) % 10080 == 0 and minute in held and (held[minute][1] == 'single')",
+        "(minute - 1440 * 4) % 10080 == 0 and held[minute][1] == 'single'",
+    ),
+    # If only minutes before the base are held, the horizon is the base, and nothing after it is held.
+    ("end_of_held", "for minute in held if minute >= base", "for minute in held"),
+    ("stretches_of", "1440 * base", "1439 * base", 1),
+    # The horizon isn't held without a second driver, so no stretch begins there.
+    ("stretches_of", "minute > horizon", "minute >= horizon"),
+}
+
 # By the program. Of these there are more kinds: tests of an `if` that always hold, or never, and `in` for `not in`.
-SAME: dict[str, set[tuple[object, ...]]] = {"rules": {*RULES}, "reader": READER, "csv": CSV, "office": set(), "server": set()}
+SAME: dict[str, set[tuple[object, ...]]] = {"rules": {*RULES}, "reader": READER, "csv": CSV, "office": OFFICE, "server": set()}

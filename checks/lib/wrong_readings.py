@@ -48,7 +48,7 @@ WRONG = [
     rule("B10 deadline", "debt.deadline <= horizon\n", "debt.deadline < horizon\n"),
     rule("B10 2700", "return max(0, 2700 - minutes_of(main))", "return max(0, 2699 - minutes_of(main))"),
     rule("B10 540", "    return 540\n", "    return 541\n"),
-    Wrong("stretches at once", "stretches: ", "office", [("if minute > horizon), default=None)", "if minute >= horizon), default=None)")]),
+    Wrong("stretches Monday", "stretches: ", "office", [("(minute - 1440 * 4) % 10080 == 0", "(minute - 1440 * 4) % 20160 == 0")]),
     Wrong("stretches end", "stretches: ", "office", [("max((minute + 1 for minute in held", "max((minute + 2 for minute in held")]),
     Wrong("stretches crew", "stretches: ", "office", [('minute in held and held[minute][1] == "single"', "minute in held")]),
     card("C1", "if value + length > len(file):", "if value + length > len(file) + 1:"),
