@@ -246,6 +246,24 @@ def done() -> Iterator[Made]:
                    [*whole, asking(f"GET {who}/{what}", key)])
 
 
+def single_bytes() -> Iterator[Made]:
+    """Bytes at the ends of those that a method, a path, a name and a value may have."""
+    for path, status in (("!", 404), ("~", 404), ("\x7f", 400), ("\u0100", 404), ("\x1f", 400)):
+        yield made("byte", status, f"a path ends in the byte {path.encode()[-1]}", [ADD_ANNA, asking(f"GET /{path}", OFFICE)])
+    for method, status in (("!#$%&'*+-.^_`|~", 405), ("G(T", 400), ("G/T", 400), ("G@T", 400), ("G[T", 400), ("G{T", 400), ("G:T", 400)):
+        yield made("byte", status, f"the method is '{method}'", [ADD_ANNA, asking(f"{method} /me/owed", DRIVER)])
+    for name, status in (("!#$%&'*+-.^_`|~09azAZ", 200), ("a(", 400), ("a/", 400), ("a@", 400), ("a[", 400), ("a{", 400), ("a\x7f", 400)):
+        yield made("byte", status, f"a field has the name '{name}'".replace("\x7f", "byte 127"),
+                   [ADD_ANNA, asking("GET /me/owed", DRIVER, f"{name}: 1")])
+    good, bad = [b"\t", b" ", b"!", b"~", b"\x80", b"\xff"], [b"\x08", b"\x1f", b"\x7f", b"\x0b"]
+    for value, status in [*((one, 200) for one in good), *((one, 400) for one in bad)]:
+        head = asking("GET /me/owed", DRIVER)[:-2] + b"a: b" + value + b"c\r\n\r\n"
+        yield made("byte", status, f"a value has the byte {value[0]}", [ADD_ANNA, head])
+    for key in ("\u00a0", "\x0c"):
+        head = OWN.replace(b"anna-key-1", key.encode("latin-1") + b"anna-key-1")
+        yield made("byte", 403 if key == "\u00a0" else 400, f"the byte {ord(key)} stands before the key", [ADD_ANNA, head])
+
+
 def requests() -> list[Made]:
     """All cases of requests."""
-    return [one for maker in (heads, limits, keys, paths, bodies, arguments, refusals, done) for one in maker()]
+    return [one for maker in (heads, limits, keys, paths, bodies, arguments, refusals, done, single_bytes) for one in maker()]

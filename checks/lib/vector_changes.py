@@ -132,12 +132,11 @@ def can_be_made(change: Changed) -> bool:
 def changes_of(program: str) -> Iterator[Changed]:
     """The changes of a program, without those that mean the same."""
     turns: dict[Change, int] = {}
-    same = same_changes.SAME[program]
     for change, make in changes.changed_modules(MODULES[program], APART.get(program, set())):
         if program != "office" or change.function in STRETCHES:
             turn = turns.get(change, 0)
             turns[change] = turn + 1
-            if change not in same and (*change, turn) not in same:
+            if not same_changes.is_same(program, change, turn):
                 yield Changed(program, change, turn, make)
 
 
