@@ -274,7 +274,7 @@ def driver_rows() -> Iterator[Made]:
                        (COLUMNS + row[:-1] + b",\n", "row 2 has six fields"), (COLUMNS + row + row, "there is a row 3"),
                        (COLUMNS + row + b" \n", "row 3 is a blank")):
         yield driver("E2", what, "fault E2", text)
-    for third, what in ((b"0" + row, "is wrong too"), (row[2:], "lacks a field")):
+    for third, what in ((b"0" + row, "is wrong too"), (row[3:], "lacks a field")):
         yield driver("E2", f"row 2 is a driver, and row 3 {what}", "fault E2", COLUMNS + row + third)
     for text, what in ((COLUMNS + row + b"\n\r\n", "empty lines after row 2 are no rows"),
                        (MARK + COLUMNS + row, "a byte order mark is skipped"),
