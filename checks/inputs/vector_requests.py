@@ -151,7 +151,7 @@ def bodies() -> Iterator[Made]:
         (400, "the right length twice", posting("/drivers", OFFICE, BERT, f"{LENGTH}{len(BERT)}")),
         (413, "a length of 262,145", asking(drivers, OFFICE, f"{LENGTH}262145")),
         (413, "a length of twelve digits", asking(drivers, OFFICE, f"{LENGTH}999999999999")),
-        (400, "a length of thirteen digits", asking(drivers, OFFICE, f"{LENGTH}0000000000009")),
+        (400, "a length of thirteen digits", asking(drivers, OFFICE, f"{LENGTH}0000000000009", body=BERT)),
         (400, "a length of 262,144, and no body", asking(drivers, OFFICE, f"{LENGTH}262144")),
         (201, "bytes after the body have no effect", asking(drivers, OFFICE, f"{LENGTH}{len(BERT):012}", body=BERT + b"\n19")),
         (200, "no length where no body is expected", asking("POST /drivers/17/base/2024-03-11", OFFICE)),

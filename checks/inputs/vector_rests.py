@@ -332,9 +332,21 @@ def owed_and_paid() -> Iterator[Made]:
     yield made("counted", "B10", what, "no debt", "r1440 " + laid(rests, 2 * WEEK + DAY, SHORT))
 
 
+def long_rests() -> Iterator[Made]:
+    """B9 by rests of more than a week, which count once."""
+    for pattern in ("S.LO.", "S.LS.", "O.LO.", "SSL.S", "S.L.T", "S.LO.S"):
+        rests = rests_of(pattern)
+        assert rests is not None
+        horizon = max(WEEK * len(pattern), max(start + minutes for start, minutes in rests) + 1)
+        found = [week for week in lacking(rests, horizon // WEEK) if week]
+        what = f"weekly rests by week: {pattern_text(pattern)}, where a rest of more than a week counts in one week alone"
+        yield made("long", "B9", what, judged(bool(found)), laid(rests, horizon))
+
+
 def timelines() -> list[Made]:
     """All cases of B9 and B10."""
-    makers = [weekly_rests, rests_at_limits, restarts, main_rests, last_runs, payers, deadlines, several_debts, owed_and_paid]
+    makers = [weekly_rests, rests_at_limits, restarts, main_rests, last_runs, payers, deadlines, several_debts, owed_and_paid,
+              long_rests]
     return [one for maker in makers for one in maker()]
 
 

@@ -57,7 +57,7 @@ CSV = {
     ("entries_of", "found[-1][1] if found else 0", "found[-1][1] if found else 1"),
     ("entries_of", "found[-1][1] if found else 0", "found[-1][1] if found else -1"),
     # Where a driver is read, there is one row.
-    ("driver_of", "rows[0]", "rows[-1]", 2),
+    ("driver_of", "rows[0]", "rows[-1]", 0),
 }
 
 # Of slow_reader.py.
