@@ -39,10 +39,12 @@ FUNCTIONS = {
     "B8": ["breaches_8", "weekly_rests"],
     "B9": [
         "breaches_9", "failing_weeks", "can_serve", "can_be_counted", "serves", "asks_for_rests", "is_wholly_at_rest", "touches",
-        "weeks_touched",
+        "weeks_touched", "weekly_rests",
+    ],
+    "B10": [
+        "breaches_10", "debts_of", "can_pay", "room", "paid_from", "kept", "owed", "main_rest", "is_in_week", "minutes_before",
         "weekly_rests",
     ],
-    "B10": ["breaches_10", "debts_of", "can_pay", "room", "paid_from", "kept", "owed", "main_rest", "minutes_before", "weekly_rests"],
 }
 # The functions that say what is held and where the examination ends. If another one is changed, what is held isn't read again.
 HELD = {"held_minutes", "horizon_of", "examined_spans", "report"}
