@@ -28,7 +28,7 @@ MAKERS: dict[str, Callable[[], list[Made]]] = {
 }
 LARGEST = 4_000_000  # bytes of the folder
 LONGEST_WHY = 260
-ANEW, TAGGED, TRIED, RUN = 8, 24, 6, 40  # of so many cases, or changes, one is made anew, has its tags found, is tried, or is run by itself
+ANEW, TAGGED, TRIED, RUN = 12, 60, 15, 40  # of so many cases, or changes, one is made anew, has its tags found, is tried, or is run by itself
 CHANGES = os.path.join(vector_sets.FOLDER, "changes.jsonl")
 CHOICES = os.path.join(vector_sets.FOLDER, "choices.md")
 CHANGE_KEYS = ["program", "function", "old", "new", "turn"]
