@@ -39,31 +39,34 @@ def made(what: str, text: str, before: int = 0) -> Made:
 def around_mondays() -> Iterator[Made]:
     """Horizons and new beginnings near a Monday's first minute."""
     for horizon, name in ((600, "on Monday at 10:00"), (WEEK - 1, "a minute before the next Monday"),
-                          (WEEK, "at the next Monday's first minute"), (WEEK + 1, "a minute after the next Monday's first")):
+                          (WEEK, "at the first minute of the next Monday"),
+                          (WEEK + 1, "a minute after the first minute of the next Monday")):
         for back, text in ((WEEK - 1, "a minute before"), (WEEK, "at"), (WEEK + 1, "a minute after")):
-            for week in (0, 1):
+            for week, later in ((0, "a week"), (1, "two weeks")):
                 again = back + week * WEEK
                 if again > horizon:
-                    what = f"minutes are held up to {name}, and again from {text} the Monday that comes {week + 1} weeks after the base"
+                    what = f"what is held ends {name}, and begins again {text} the first minute of the Monday {later} after the base"
                     yield made(what, f"r{horizon} x{again - horizon} r3000 d60 r600")
     for monday, name in (("r1", "rest"), ("d1", "driving"), ("dc1", "driving with a second driver"), ("rc1", "rest with a second driver"),
                          ("x1", "not held")):
-        for after in ("r600 d60", "x600 d60", "dc600 d60"):
-            what = f"after a gap the Monday's first minute is {name}, and then come {after}"
+        for after, text in (("r600 d60", "of rest"), ("x600 d60", "that aren't held"), ("dc600 d60", "of driving with a second driver")):
+            what = f"after a gap the Monday's first minute is {name}, and then come 600 minutes {text} and 60 of driving"
             yield made(what, f"r360 d60 x{WEEK - 420} {monday} {after}")
 
 
 def gaps_and_crew() -> Iterator[Made]:
     """What ends an examination, and for how long."""
-    for kind, name in (("x", "minutes that aren't held"), ("dc", "driving with a second driver"), ("rc", "rest with a second driver")):
+    for kind, name in (("x", "that aren't held"), ("dc", "of driving with a second driver"), ("rc", "of rest with a second driver")):
         for minutes in (1, 60, WEEK - 660, WEEK - 600, WEEK - 540, 2 * WEEK - 600):
-            what = f"600 minutes of rest, {minutes} of {name}, and then rest"
+            time = f"{minutes} minutes {name}" if minutes > 1 else f"a minute {name}".replace("aren't", "isn't")
+            what = f"600 minutes of rest, {time}, and then rest"
             yield made(what, f"r600 {kind}{minutes} r{2 * WEEK} d60")
-        for count in (1, 2, 3, 4):
-            what = f"{count} times a week that ends with {name}"
+        for count, times in ((1, "one week"), (2, "two weeks"), (3, "three weeks"), (4, "four weeks")):
+            what = f"{times} that end{'s' * (count == 1)} with minutes {name}"
             yield made(what, f"r9000 {kind}1080 " * count + "r600")
-    for first, second in itertools.permutations(("x60", "dc60"), 2):
-        yield made(f"after a horizon by '{first}' comes '{second}' before the next Monday", f"r600 {first} d60 {second} r{WEEK} d60")
+    for first, second in itertools.permutations((("x60", "60 minutes that aren't held"), ("dc60", "60 minutes with a second driver")), 2):
+        yield made(f"the horizon is the first of {first[1]}, and before the next Monday come {second[1]}",
+                   f"r600 {first[0]} d60 {second[0]} r{WEEK} d60")
     yield made("crew goes on over two Mondays", f"r600 dc{2 * WEEK} d600 r{WEEK}")
     yield made("crew ends with Sunday, and the Monday begins a stretch", f"r600 dc{WEEK - 600} r600 d60")
     yield made("crew for a minute on Monday at 00:01 ends the stretch at its second minute", f"r600 x{WEEK - 600} r1 dc1 r{WEEK} d5")
@@ -76,9 +79,9 @@ def ends() -> Iterator[Made]:
     yield made("minutes before the base and up to it are held, and none after it", f"d{WEEK}", WEEK)
     for start in (1, 600, WEEK - 1, WEEK, WEEK + 1, 2 * WEEK):
         yield made(f"the first minute that is held comes {minutes_text(start)} after the base", f"x{start} d300 r600")
-    for kind in ("d", "r", "dc", "rc"):
-        yield made(f"after the horizon only '{kind}' of one minute is held, on a Wednesday", f"r600 x{2 * DAY} {kind}1")
-        yield made(f"after the horizon only '{kind}' of one minute is held, on a Monday at 00:00", f"r600 x{WEEK - 600} {kind}1")
+    for kind, name in (("d", "driving"), ("r", "rest"), ("dc", "driving with a second driver"), ("rc", "rest with a second driver")):
+        yield made(f"after the horizon only a minute of {name} is held, on a Wednesday", f"r600 x{2 * DAY} {kind}1")
+        yield made(f"after the horizon only a minute of {name} is held, on a Monday at 00:00", f"r600 x{WEEK - 600} {kind}1")
     yield made("the horizon is the end of what is held, so nothing is left that isn't examined", "r360 d60 r600")
     yield made("what is held ends with crew, which isn't examined", "r360 d60 dc600")
     yield made("the base itself has a second driver", f"dc60 r{WEEK} d5")
@@ -113,8 +116,8 @@ def sum_of(text: str) -> int:
 
 def at_base() -> Iterator[Made]:
     """What is held is the base's first minute."""
-    for kind in ("d", "dc"):
-        yield made(f"only the base's first minute is held, as '{kind}'", f"{kind}1")
+    for kind, name in (("d", "driving"), ("dc", "driving with a second driver")):
+        yield made(f"only the base's first minute is held, as {name}", f"{kind}1")
 
 
 def stretches() -> list[Made]:
