@@ -2,9 +2,9 @@
 """Compares our programs with the conformance vectors in vectors/, makes the vectors anew with the slow programs, and expects that each
 change of a slow program, each other choice and each wrong reading of an adapter is noticed by a case that says so.
 
-Arguments: the programs `tacho`, `tool_rows` and `tool_script`. By default a part is made anew and tried, chosen by a fixed rule that
-reaches every set and every generator: `--all` does so with all. `--write` writes the vectors, and needs no program; it takes some
-minutes. The last line is 'N passed, M failed'."""
+Arguments: the programs `tacho`, `tool_rows` and `tool_script`. All cases are made anew and answered anew. By default the tags are found
+anew for a part of them, and a part of the changes is tried, chosen by a fixed rule: `--all` does so with all. `--write` writes the
+vectors, and needs no program; it takes some minutes. The last line is 'N passed, M failed'."""
 import argparse
 import functools
 import json
@@ -28,7 +28,7 @@ MAKERS: dict[str, Callable[[], list[Made]]] = {
 }
 LARGEST = 4_000_000  # bytes of the folder
 LONGEST_WHY = 260
-ANEW, TAGGED, TRIED, RUN = 12, 60, 15, 40  # of so many cases, or changes, one is made anew, has its tags found, is tried, or is run by itself
+TAGGED, TRIED, RUN = 60, 15, 40  # of so many cases, or changes, one has its tags found, is tried, or is run by itself
 CHANGES = os.path.join(vector_sets.FOLDER, "changes.jsonl")
 CHOICES = os.path.join(vector_sets.FOLDER, "choices.md")
 CHANGE_KEYS = ["program", "function", "old", "new", "turn"]
@@ -238,8 +238,8 @@ def is_part(identifier: str, of: int) -> bool:
     return number_of(identifier) % of == 1 % of
 
 
-def of_set(name: str, of: int, tagged: int) -> counting.Comparisons:
-    """The comparisons of a set with what is made anew of it, of a part also the answers and the tags."""
+def of_set(name: str, tagged: int) -> counting.Comparisons:
+    """The comparisons of a set with what is made anew of it, of a part also the tags."""
     lines = {case["id"]: (case, line) for case, line in zip(vector_sets.cases_in(name), vector_sets.lines_in(vector_sets.path_of(name)))}
     made = made_cases(name)
     yield f"{name}: the ids", list(lines), [identifier for identifier, _ in made]
@@ -248,9 +248,8 @@ def of_set(name: str, of: int, tagged: int) -> counting.Comparisons:
         if identifier not in lines:
             continue
         case, line = lines[identifier]
-        wanted = {**case, "why": one.why, "rule": one.rule, "input": one.given}
-        if is_part(identifier, of):
-            wanted["expected"] = vector_sets.ANSWERS[name](SLOW, one.given)
+        expected = vector_sets.ANSWERS[name](SLOW, one.given)
+        wanted = {**case, "why": one.why, "rule": one.rule, "input": one.given, "expected": expected}
         if is_part(identifier, tagged) and (tagged == 1 or not is_long(case)):
             wanted["tags"] = other_choices.tags_of(vector_changes.Known(name, wanted))
         yield f"{name}/{identifier}: its line", line, vector_sets.line_of(wanted)
@@ -384,7 +383,7 @@ def comparisons(tacho: str, rows: str, tool: str, is_all: bool) -> counting.Comp
     yield from of_archives(tool)
     yield from of_requests(tacho)
     for name in vector_sets.NAMES:
-        yield from of_set(name, 1 if is_all else ANEW, 1 if is_all else TAGGED)
+        yield from of_set(name, 1 if is_all else TAGGED)
     yield from of_changes(1 if is_all else TRIED)
     yield from of_choices(1 if is_all else TRIED)
     yield from of_runner(tacho, 1 if is_all else RUN)
