@@ -21,7 +21,7 @@ from inputs import mutated_inputs
 from inputs.mutated_inputs import NO_TEXT, PATH
 from lib import counting, programs
 from lib.office import STORE_FAILED, Desk
-from lib.office_rows import ANNA, CARD, DAY
+from lib.office_rows import ANNA, CARD, DAY, DRIVER_HEAD, HOLDER
 from lib.server import asked_of, of_asked, server_after
 from slow import slow_archive, slow_office, slow_reader
 
@@ -42,6 +42,8 @@ KEPT = [
     (LINES, b"breaches PATH -", "a hyphen as a value"),
     (LINES, b"breaches PATH 17 --", "two hyphens after the values"),
     (LINES, b"drivers help", "a path that is a command's name"),
+    (LINES, f"register PATH\n{DRIVER_HEAD}18,{HOLDER},bert-key-1,2024-03-04,Bert".encode(), "a card's holder that another driver has"),
+    (LINES, b"key PATH 17\nanna-key-1\r\n", "a driver's own key"),
     (REQUESTS, b"\n\r\nGET /drivers/17/breaches HTTP/1.0\nX-KEY:office-key-1\n\r\n\0GET", "ends of lines of both forms"),
 ]
 
