@@ -1,0 +1,227 @@
+-- A driver whose row is stored has a member up to a table exactly if the rows of each table up to it fit.
+use Rattle.std.proofs.Common.{◌≡◌, ◌∙◌, ℕ, zero, suc, pos, ◌≤◌, ◌⊎◌, inl, inr, List, [], ◌∷◌, ◌++◌, append-nil, map, length, refl, sym, ap, subst, arith}
+use Rattle.std.specs.List.Sorted.{IsPermutation}
+use Rattle.sqlite.specs.Order.{Row}
+use Rattle.sqlite_trees.proofs.ListLemmas.{IsPermutation-same}
+use Rattle.tacho_time.specs.declared.span.Span.{Span}
+use Rattle.tacho_time.specs.Spans.{Gives, IsCanonicalOf, IsFirstConflict}
+use Rattle.tacho_time.proofs.ExistenceLemmas.{list_or_conflict}
+use Rattle.tacho_card.specs.declared.file.Part.TheVariants.{Both}
+use Rattle.tacho_state.specs.State.{Download, Entry, given_spans, entered_spans, AreFull}
+use Rattle.tacho_state.specs.Disjoint.{Keeps}
+use Rattle.tacho_state.proofs.DisjointLemmas.{disjoint_canonical, disjoint_agrees}
+use Rattle.tacho_tables.specs.Rows.{DriverRow, driver_row, span_columns, download_columns, entry_columns}
+use Rattle.tacho_reading.specs.Standing.{AreRead, driver_columns, rows_of_downloads, rows_of_entries, span_row}
+use Rattle.tacho_check.specs.declared.table.TableName.{TableName}
+use Rattle.tacho_check.specs.declared.table.TableName.TheVariants.{Drivers, Downloads, CardSpans, EntryRows, Held}
+use Rattle.tacho_check.specs.Check.{place}
+use Rattle.tacho_check.specs.Member.{Member, member_rows, HasMember}
+use Rattle.tacho_check.specs.Fits.{Agrees, DownloadsFit, CardsFit, EntriesFit, HeldFits}
+use Rattle.tacho_check.proofs.SpreadLemmas.{single}
+use Rattle.tacho_check.proofs.WitnessLemmas.{blank_tells, blank_holder, blank_downloads, blank_count, blank_given, blank_entries, entry_count, blank_entered, blank_full}
+
+-- ---- spans that keep what others give
+
+-- spans that agree have a list that keeps what they give
+kept_list : (spans : List Span) → Agrees spans → (line : List Span) × Keeps line (Gives spans)
+kept_list spans agrees = go (list_or_conflict spans) where
+  go : ((runs : List Span) × IsCanonicalOf (Gives spans) runs) ⊎ ((m : ℕ) × IsFirstConflict (Gives spans) m) → (line : List Span)
+      × Keeps line (Gives spans)
+  go (inl it) = (it.0, record { disjoint = disjoint_canonical it.0 it.1.canonical; same = it.1.same })
+  go (inr it) = absurd (agrees it.0 it.1.0)
+
+-- what is kept agrees
+kept_agrees : (line spans : List Span) → Keeps line (Gives spans) → Agrees spans
+kept_agrees line spans keeps m c =
+    disjoint_agrees line m keeps.disjoint (c.0, c.1, (keeps.same m c.0).1 c.2, (keeps.same m c.1).1 c.3, c.4)
+
+-- no spans keep what no spans give
+nothing_kept : (spans : List Span) → spans ≡ [] → Keeps [] (Gives spans)
+nothing_kept spans none = subst (λ (xs : List Span). Keeps [] (Gives xs)) (sym none)
+    (record { disjoint = tt; same = λ m k. ((λ g. g), (λ g. g)) })
+
+-- entries that give nothing change nothing
+without_entries : (line spans more : List Span) → more ≡ [] → Keeps line (Gives spans) → Keeps line (Gives (spans ++ more))
+without_entries line spans more none keeps =
+    subst (λ (xs : List Span). Keeps line (Gives xs)) (sym (ap (λ (xs : List Span). spans ++ xs) none ∙ append-nil spans)) keeps
+
+-- downloads of the blank file are read
+blank_read : (n : ℕ) → AreRead (blank_downloads n)
+unfolding blank_downloads
+blank_read zero = tt
+blank_read (suc n) = ((Both, blank_holder, refl, blank_tells), blank_read n)
+
+module _ (rows : TableName → List Row) (r : DriverRow) (own : rows Drivers ≡ driver_row r ∷ []) where
+  -- a member with the driver's row
+  abbrev member_of : List Download → List Entry → List Span → List Span → Member
+  member_of ds es cards held = record {
+    driver = record { number = r.driver; holder = r.holder; key = r.secret; base = r.base; name = r.name; downloads = ds; entries = es };
+    cards = cards;
+    held = held;
+  }
+
+  -- its row is the driver's, where the counts are right
+  row_is : (ds : List Download) (es : List Entry) (cards held : List Span) → length ds ≡ r.downloads → length es ≡ r.entries
+      → driver_columns (member_of ds es cards held).driver ≡ r
+  row_is ds es cards held first second =
+      ap (λ (k : ℕ). record {
+        driver = r.driver;
+        holder = r.holder;
+        secret = r.secret;
+        base = r.base;
+        name = r.name;
+        downloads = k;
+        entries = length es;
+      }) first
+      ∙ ap (λ (k : ℕ). record {
+        driver = r.driver;
+        holder = r.holder;
+        secret = r.secret;
+        base = r.base;
+        name = r.name;
+        downloads = r.downloads;
+        entries = k;
+      }) second
+
+  -- the rows of a member up to a table, from those of each
+  built : (k : TableName) (ds : List Download) (es : List Entry) (cards held : List Span) → AreRead ds → AreFull es
+      → Keeps cards (Gives (given_spans ds)) → Keeps held (Gives (given_spans ds ++ entered_spans es))
+      → length ds ≡ r.downloads → length es ≡ r.entries
+      → ((j : TableName) → 1 ≤ place j → place j ≤ place k → IsPermutation (member_rows j (member_of ds es cards held)) (rows j))
+      → HasMember rows (pos r.driver) k
+  built k ds es cards held read full card_keeps held_keeps first second each = record {
+    member = member_of ds es cards held;
+    whole = record { read = read; full = full; cards = card_keeps; held = held_keeps };
+    number = refl;
+    same = all;
+  } where
+    all : (j : TableName) → place j ≤ place k → IsPermutation (member_rows j (member_of ds es cards held)) (rows j)
+    all Drivers before = IsPermutation-same _ _ (ap (λ (x : DriverRow). driver_row x ∷ []) (row_is ds es cards held first second) ∙ sym own)
+    all Downloads before = each Downloads (omega arith) before
+    all CardSpans before = each CardSpans (omega arith) before
+    all EntryRows before = each EntryRows (omega arith) before
+    all Held before = each Held (omega arith) before
+
+  -- ---- rows that fit have a member
+
+  pub drivers_have : HasMember rows (pos r.driver) Drivers
+  drivers_have =
+      let ds = blank_downloads r.downloads in
+      let es = blank_entries r.entries in
+      built Drivers ds es [] [] (blank_read r.downloads) (blank_full r.entries) (nothing_kept (given_spans ds) (blank_given r.downloads))
+      (without_entries [] (given_spans ds) (entered_spans es) (blank_entered r.entries)
+      (nothing_kept (given_spans ds) (blank_given r.downloads)))
+      (blank_count r.downloads) (entry_count r.entries)
+      (λ j after before. absurd (omega (arith, after, before)))
+
+  pub downloads_have : (ds : List Download) → DownloadsFit r.driver r.downloads (rows Downloads) ds
+      → HasMember rows (pos r.driver) Downloads
+  downloads_have ds fit =
+      let es = blank_entries r.entries in
+      let line = kept_list (given_spans ds) fit.agrees in
+      built Downloads ds es line.0 line.0 fit.read (blank_full r.entries) line.1
+      (without_entries line.0 (given_spans ds) (entered_spans es) (blank_entered r.entries) line.1) fit.count_is (entry_count r.entries)
+      (each es line.0) where
+        each : (es : List Entry) (line : List Span) (j : TableName) → 1 ≤ place j → place j ≤ place Downloads
+            → IsPermutation (member_rows j (member_of ds es line line)) (rows j)
+        each es line Drivers after before = absurd (omega (arith, after))
+        each es line Downloads after before = fit.same
+        each es line CardSpans after before = absurd (omega (arith, before))
+        each es line EntryRows after before = absurd (omega (arith, before))
+        each es line Held after before = absurd (omega (arith, before))
+
+  pub cards_have : (ds : List Download) (cards : List Span) → DownloadsFit r.driver r.downloads (rows Downloads) ds
+      → CardsFit r.driver (rows CardSpans) ds cards → HasMember rows (pos r.driver) CardSpans
+  cards_have ds cards fit card_fit =
+      let es = blank_entries r.entries in
+      built CardSpans ds es cards cards fit.read (blank_full r.entries) card_fit.keeps
+      (without_entries cards (given_spans ds) (entered_spans es) (blank_entered r.entries) card_fit.keeps) fit.count_is
+      (entry_count r.entries)
+      (each es) where
+        each : (es : List Entry) (j : TableName) → 1 ≤ place j → place j ≤ place CardSpans
+            → IsPermutation (member_rows j (member_of ds es cards cards)) (rows j)
+        each es Drivers after before = absurd (omega (arith, after))
+        each es Downloads after before = fit.same
+        each es CardSpans after before = card_fit.same
+        each es EntryRows after before = absurd (omega (arith, before))
+        each es Held after before = absurd (omega (arith, before))
+
+  pub entries_have : (ds : List Download) (cards : List Span) (es : List Entry) → DownloadsFit r.driver r.downloads (rows Downloads) ds
+      → CardsFit r.driver (rows CardSpans) ds cards → EntriesFit r.driver r.entries (rows EntryRows) ds es
+      → HasMember rows (pos r.driver) EntryRows
+  entries_have ds cards es fit card_fit entry_fit =
+      let line = kept_list (given_spans ds ++ entered_spans es) entry_fit.agrees in
+      built EntryRows ds es cards line.0 fit.read entry_fit.full card_fit.keeps line.1 fit.count_is entry_fit.count_is (each line.0) where
+        each : (line : List Span) (j : TableName) → 1 ≤ place j → place j ≤ place EntryRows
+            → IsPermutation (member_rows j (member_of ds es cards line)) (rows j)
+        each line Drivers after before = absurd (omega (arith, after))
+        each line Downloads after before = fit.same
+        each line CardSpans after before = card_fit.same
+        each line EntryRows after before = entry_fit.same
+        each line Held after before = absurd (omega (arith, before))
+
+  pub held_has : (ds : List Download) (cards : List Span) (es : List Entry) (held : List Span)
+      → DownloadsFit r.driver r.downloads (rows Downloads) ds
+      → CardsFit r.driver (rows CardSpans) ds cards → EntriesFit r.driver r.entries (rows EntryRows) ds es
+      → HeldFits r.driver (rows Held) ds es held
+      → HasMember rows (pos r.driver) Held
+  held_has ds cards es held fit card_fit entry_fit held_fit =
+      built Held ds es cards held fit.read entry_fit.full card_fit.keeps held_fit.keeps fit.count_is entry_fit.count_is each where
+        each : (j : TableName) → 1 ≤ place j → place j ≤ place Held → IsPermutation (member_rows j (member_of ds es cards held)) (rows j)
+        each Drivers after before = absurd (omega (arith, after))
+        each Downloads after before = fit.same
+        each CardSpans after before = card_fit.same
+        each EntryRows after before = entry_fit.same
+        each Held after before = held_fit.same
+
+  -- ---- rows of a member fit
+
+  module _ (k : TableName) (it : HasMember rows (pos r.driver) k) where
+    -- the member's row is the driver's
+    own_columns : driver_row (driver_columns it.member.driver) ≡ driver_row r
+    own_columns =
+        let one : rows Drivers ≡ driver_row (driver_columns it.member.driver) ∷ [] =
+        single (driver_row (driver_columns it.member.driver)) (rows Drivers) (it.same Drivers (omega arith)) in
+        let both = sym one ∙ own in cc
+
+    same_number : it.member.driver.number ≡ r.driver
+    same_number = let e = own_columns in cc
+
+    same_downloads : length it.member.driver.downloads ≡ r.downloads
+    same_downloads = let e = own_columns in cc
+
+    same_entries : length it.member.driver.entries ≡ r.entries
+    same_entries = let e = own_columns in cc
+
+    pub fits_downloads : place Downloads ≤ place k → DownloadsFit r.driver r.downloads (rows Downloads) it.member.driver.downloads
+    fits_downloads before = record {
+      read = it.whole.read;
+      same = subst (λ (i : ℕ). IsPermutation (map download_columns (rows_of_downloads i 1 it.member.driver.downloads)) (rows Downloads))
+          same_number (it.same Downloads before);
+      count_is = same_downloads;
+      agrees = kept_agrees it.member.cards (given_spans it.member.driver.downloads) it.whole.cards;
+    }
+
+    pub fits_cards : place CardSpans ≤ place k → CardsFit r.driver (rows CardSpans) it.member.driver.downloads it.member.cards
+    fits_cards before = record {
+      same = subst (λ (i : ℕ). IsPermutation (map span_columns (map (span_row i) it.member.cards)) (rows CardSpans)) same_number
+          (it.same CardSpans before);
+      keeps = it.whole.cards;
+    }
+
+    pub fits_entries : place EntryRows ≤ place k → EntriesFit r.driver r.entries
+        (rows EntryRows) it.member.driver.downloads it.member.driver.entries
+    fits_entries before = record {
+      full = it.whole.full;
+      same = subst (λ (i : ℕ). IsPermutation (map entry_columns (rows_of_entries i 1 it.member.driver.entries)) (rows EntryRows))
+          same_number (it.same EntryRows before);
+      count_is = same_entries;
+      agrees = kept_agrees it.member.held (given_spans it.member.driver.downloads ++ entered_spans it.member.driver.entries) it.whole.held;
+    }
+
+    pub fits_held : place Held ≤ place k → HeldFits r.driver (rows Held) it.member.driver.downloads it.member.driver.entries it.member.held
+    fits_held before = record {
+      same = subst (λ (i : ℕ). IsPermutation (map span_columns (map (span_row i) it.member.held)) (rows Held)) same_number
+          (it.same Held before);
+      keeps = it.whole.held;
+    }

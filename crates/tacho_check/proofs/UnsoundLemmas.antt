@@ -1,0 +1,34 @@
+-- Tables that represent a state have the stored rows of each driver.
+use Rattle.std.proofs.Common.{◌≡◌, ℤ, subst}
+use Rattle.sqlite.specs.Tree.{Trees}
+use Rattle.sqlite_catalog.specs.Listing.{IsSound}
+use Rattle.sqlite_trees.proofs.ListLemmas.{IsPermutation-filter}
+use Rattle.tacho_state.specs.State.{State}
+use Rattle.tacho_tables.specs.Schema.{Layout, archive_schema}
+use Rattle.tacho_tables.specs.Tables.{Tables, HasTables}
+use Rattle.tacho_tables.proofs.CatalogLemmas.{one_layout}
+use Rattle.tacho_reading.specs.Standing.{Represents}
+use Rattle.tacho_check.specs.Check.{is_own, Agree, IsSoundAt, IsFirstUnsound}
+use Rattle.tacho_check.specs.declared.table.TableName.{TableName}
+use Rattle.tacho_check.specs.declared.table.TableName.TheVariants.{Drivers, Downloads, CardSpans, EntryRows, Held}
+use Rattle.tacho_check.specs.declared.table.Unsound.{Unsound}
+
+-- the stored rows of a driver in a table are those of the typed rows
+pub tables_agree : (db : Trees) (n : ℤ) (t : Tables) (h : HasTables db t) (j : TableName) → Agree h.layout db n t j
+tables_agree db n t h Drivers = IsPermutation-filter (is_own n) _ _ h.drivers.same
+tables_agree db n t h Downloads = IsPermutation-filter (is_own n) _ _ h.downloads.same
+tables_agree db n t h CardSpans = IsPermutation-filter (is_own n) _ _ h.card_spans.same
+tables_agree db n t h EntryRows = IsPermutation-filter (is_own n) _ _ h.entries.same
+tables_agree db n t h Held = IsPermutation-filter (is_own n) _ _ h.held.same
+
+-- so the rows of each driver are sound up to each table
+pub represented_is_sound : (layout : Layout) (db : Trees) (s : State) → IsSound (archive_schema layout) db → Represents db s
+    → (n : ℤ) (k : TableName) → IsSoundAt layout db n k
+unfolding Represents
+represented_is_sound layout db s sound stands n k =
+    let same : stands.1.layout ≡ layout = one_layout db stands.1.layout layout stands.1.sound sound in
+    (s, stands.0, stands.2, λ j before. subst (λ (l : Layout). Agree l db n stands.0 j) same (tables_agree db n stands.0 stands.1 j))
+
+-- so none is unsound
+pub no_state : (db : Trees) (u : Unsound) (s : State) → IsFirstUnsound db u → ¬ (Represents db s)
+no_state db u s h stands = h.at.unsound (represented_is_sound h.layout db s h.sound stands u.driver u.table)

@@ -1,0 +1,37 @@
+-- Private to tacho_check: What a driver's rows have to be, table by table.
+use Rattle.std.specs.Prelude.{◌≡◌, ℕ, List, ◌++◌, map, length, IsPermutation}
+use Rattle.sqlite.specs.Order.{Row}
+use Rattle.tacho_time.specs.declared.span.Span.{Span}
+use Rattle.tacho_time.specs.Spans.{Gives, Conflicts}
+use Rattle.tacho_state.specs.State.{Download, Entry, given_spans, entered_spans, AreFull}
+use Rattle.tacho_state.specs.Disjoint.{Keeps}
+use Rattle.tacho_tables.specs.Rows.{span_columns, download_columns, entry_columns}
+use Rattle.tacho_reading.specs.Standing.{AreRead, rows_of_downloads, rows_of_entries, span_row}
+
+-- no minute has two marks
+abbrev pub Agrees : List Span → Type 0
+Agrees spans = (m : ℕ) → ¬ (Conflicts (Gives spans) m)
+
+-- the downloads have these rows: as many as the driver's row counts, read again without a contradiction
+pub record DownloadsFit (n : ℕ) (count : ℕ) (rows : List Row) (ds : List Download) : Type 0 where
+  pub read : AreRead ds
+  pub same : IsPermutation (map download_columns (rows_of_downloads n 1 ds)) rows
+  pub count_is : length ds ≡ count
+  pub agrees : Agrees (given_spans ds)
+
+-- the spans have these rows, and keep what the downloads give
+pub record CardsFit (n : ℕ) (rows : List Row) (ds : List Download) (cards : List Span) : Type 0 where
+  pub same : IsPermutation (map span_columns (map (span_row n) cards)) rows
+  pub keeps : Keeps cards (Gives (given_spans ds))
+
+-- the entries have these rows: as many as the driver's row counts, none empty, and without a contradiction
+pub record EntriesFit (n : ℕ) (count : ℕ) (rows : List Row) (ds : List Download) (es : List Entry) : Type 0 where
+  pub full : AreFull es
+  pub same : IsPermutation (map entry_columns (rows_of_entries n 1 es)) rows
+  pub count_is : length es ≡ count
+  pub agrees : Agrees (given_spans ds ++ entered_spans es)
+
+-- the spans have these rows, and keep what the driver holds
+pub record HeldFits (n : ℕ) (rows : List Row) (ds : List Download) (es : List Entry) (held : List Span) : Type 0 where
+  pub same : IsPermutation (map span_columns (map (span_row n) held)) rows
+  pub keeps : Keeps held (Gives (given_spans ds ++ entered_spans es))

@@ -1,0 +1,10 @@
+pub mod Check
+pub mod Wide
+pub mod Hours
+pub mod Files
+pub mod Member
+pub mod Fits
+pub mod Typed
+pub mod Judged
+pub mod Ask
+pub mod Parsed

@@ -1,0 +1,38 @@
+-- Private to tacho_check: A driver's stored rows as typed rows that were read, in any order.
+use Rattle.std.specs.Prelude.{◌≡◌, ℕ, ◌≤◌, List, [], ◌∷◌, map, IsPermutation}
+use Rattle.std.specs.List.{AllByRecursion}
+use Rattle.sqlite.specs.Order.{Row}
+use Rattle.tacho_tables.specs.Rows.{DownloadRow, EntryRow, span_columns, download_columns, entry_columns}
+use Rattle.tacho_reading.specs.Standing.{span_row}
+use Rattle.tacho_check.specs.declared.files.FileRow.{FileRow}
+use Rattle.tacho_check.specs.declared.hours.HoursRow.{HoursRow}
+use Rattle.tacho_check.specs.declared.wide.Wide.{Wide}
+use Rattle.tacho_check.specs.Wide.{wide_spans}
+
+-- each number is at least the one before it, and the first at least i
+abbrev pub NeverFall : ℕ → List ℕ → Type 0
+NeverFall i [] = Unit {0}
+NeverFall i (k ∷ ks) = (i ≤ k) × NeverFall k ks
+
+-- the row of a driver's card file
+abbrev pub file_row : ℕ → FileRow → DownloadRow
+file_row n f = record { driver = n; number = f.number; part = f.part; file = f.file.items }
+
+-- the files have these rows
+abbrev pub AreFiles : ℕ → List Row → List FileRow → Type 0
+AreFiles n rows files = IsPermutation (map download_columns (map (file_row n) files)) rows
+
+-- the hours of an entry's row
+abbrev pub hours_of : EntryRow → HoursRow
+hours_of r = record { number = r.number; start = r.start; past = r.past; mark = r.mark; withdrawn = r.withdrawn }
+
+-- the hours have these rows, whatever their authors and notes
+pub record AreHours (n : ℕ) (rows : List Row) (hours : List HoursRow) : Type 0 where
+  pub entries : List EntryRow
+  pub own : AllByRecursion (λ r. r.driver ≡ n) entries
+  pub shown : map hours_of entries ≡ hours
+  pub same : IsPermutation (map entry_columns entries) rows
+
+-- the spans have these rows
+abbrev pub AreSpans : ℕ → List Row → List Wide → Type 0
+AreSpans n rows spans = IsPermutation (map span_columns (map (span_row n) (wide_spans spans))) rows
