@@ -17,3 +17,12 @@ mod JudgeLemmas
 mod AbsentLemmas
 mod AskLemmas
 mod ParsedLemmas
+mod ReadLemmas
+mod OwnReadLemmas
+mod FileParsedLemmas
+mod HourParsedLemmas
+mod TypeLemmas
+mod FileReadLemmas
+mod HourReadLemmas
+mod RegisteredLemmas
+mod DriverAskLemmas

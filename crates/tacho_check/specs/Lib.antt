@@ -8,3 +8,5 @@ pub mod Typed
 pub mod Judged
 pub mod Ask
 pub mod Parsed
+pub mod Own
+pub mod Registered

@@ -1,15 +1,19 @@
 //! Whether the archive's tables represent a state. If they don't, the first driver and the first table for which no state has such rows.
 //!
-//! No command uses this crate yet. It has the judgement of one driver, and the readings of that driver's rows. Typed rows of card files and
-//! of entries, and the way through all drivers, are open.
+//! No command uses this crate yet. It has the readings of a driver's rows as typed rows, and the judgement of them. To do both for each
+//! driver in turn is open.
 #![tactic(auto)]
 
 pub mod asking;
+pub mod file_parsing;
 pub mod files;
+pub mod hour_parsing;
 pub mod hours;
 pub mod judgement;
 pub mod laws;
+pub mod own;
 pub mod parsing;
+pub mod registered;
 mod statement;
 mod table;
 pub mod wide;

@@ -12,7 +12,7 @@ use tacho_tables::TableFault;
 use tacho_time::{Activity, Mark};
 
 /// Returns a number that isn't negative.
-fn natural(number: i64) -> Option<u64>
+pub(crate) fn natural(number: i64) -> Option<u64>
     ensures { IsNatural number result }
 {
     if number < 0 {
