@@ -26,3 +26,5 @@ mod FileReadLemmas
 mod HourReadLemmas
 mod RegisteredLemmas
 mod DriverAskLemmas
+mod JudgingLemmas
+mod ThenLemmas

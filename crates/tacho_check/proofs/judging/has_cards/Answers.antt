@@ -1,0 +1,18 @@
+use Rattle.std.proofs.Common.{to_z-of_z}
+use Rattle.sqlite.specs.Held.{state}
+use Rattle.tacho_check.specs.Ask.{three_shown}
+use Rattle.tacho_check.specs.Member.{own_in}
+use Rattle.tacho_check.specs.declared.table.TableName.TheVariants.{CardSpans}
+use Rattle.tacho_check.proofs.JudgingLemmas.{shown_any}
+use Rattle.tacho_check.proofs.OwnReadLemmas.{passes_on, gives_up}
+use Rattle.tacho_check.proofs.judging.has_cards.Goals as goal
+
+pub returns : goal.returns
+returns g c =
+    let db = (state g.S.Store c.args.tx.now.conn.now).now.trees in
+    passes_on c.in_ok-rows.rows _ c.in_ok-rows.ensures
+    (λ layout ready shown. shown_any three_shown (own_in layout db c.args.driver) CardSpans c.in_ok-rows.rows.items
+    (rw (to_z-of_z c.ranges.driver) at shown) c.in_ok-rows.rows.len c.in_ok-rows.rows.ok.0 c.is_empty.result c.is_empty.ensures)
+
+pub returns-in_err-rows : goal.returns-in_err-rows
+returns-in_err-rows g c = gives_up _ c.from_residual.result c.in_err-rows.ensures c.from_residual.ensures.0

@@ -1,0 +1,200 @@
+//! The judgement of the stored rows of one driver.
+
+ghost use Rattle.std.specs.Prelude.{◌≡◌, ℕ, pos, List, [], IfOk};
+ghost use Rattle.sqlite.specs.Order.{Row};
+ghost use Rattle.tacho_tables.specs.Rows.{DriverRow};
+ghost use Rattle.tacho_check.specs.declared.table.TableName.{TableName as Name};
+ghost use Rattle.tacho_check.specs.Ask.{Asks};
+ghost use Rattle.tacho_check.specs.Judged.{AreFilesRead, AreSpansRead, AreHoursRead, IsReadDriver, HasRows, IsJudged};
+ghost use Rattle.tacho_check.specs.Member.{own_in};
+ghost use Rattle.tacho_check.specs.Registered.{IsRegistered};
+ghost use Rattle.tacho_check.specs.declared.registered.Registered.TheVariants.{Counted};
+
+use crate::asking::{card_span_rows, file_rows, held_rows, hour_rows};
+use crate::files::FileRow;
+use crate::hours::HoursRow;
+use crate::judgement::{Counts, judge, judge_absent};
+use crate::own::{own_card_spans, own_files, own_held, own_hours};
+use crate::registered::{Registered, own_row};
+use crate::table::TableName;
+use crate::wide::Wide;
+use sqlite::{Alter, Transaction};
+use std::alloc::Global;
+use tacho_tables::TableFault;
+
+/// A driver's card files and hours.
+#[derive(Drop)]
+pub struct Sources {
+    pub files: Option<Vec<FileRow>>,
+    pub hours: Option<Vec<HoursRow>>,
+}
+
+/// A driver's rows of `card_spans` and of `held`.
+#[derive(Drop)]
+pub struct Timelines {
+    pub cards: Option<Vec<Wide>>,
+    pub held: Option<Vec<Wide>>,
+}
+
+/// Reads a driver's card files and hours.
+fn own_sources<S: Alter>(
+    alloc: Global,
+    tx: &mut Transaction<'_, S>,
+    driver: i64,
+) -> Result<Sources, TableFault>
+    ensures { Asks S.Store tx.old.conn tx.new.conn result (λ layout db found. (n : ℕ) → driver ≡ pos n
+        → AreFilesRead n (own_in layout db driver TableName.Downloads) found.files
+        × AreHoursRead n (own_in layout db driver TableName.EntryRows) found.hours) }
+{
+    let files = own_files(alloc, tx, driver)?;
+    let hours = own_hours(alloc, tx, driver)?;
+    Ok(Sources { files, hours })
+}
+
+/// Reads a driver's rows of `card_spans` and of `held`.
+fn own_timelines<S: Alter>(
+    alloc: Global,
+    tx: &mut Transaction<'_, S>,
+    driver: i64,
+) -> Result<Timelines, TableFault>
+    ensures { Asks S.Store tx.old.conn tx.new.conn result (λ layout db found. (n : ℕ) → driver ≡ pos n
+        → AreSpansRead n (own_in layout db driver TableName.CardSpans) found.cards
+        × AreSpansRead n (own_in layout db driver TableName.Held) found.held) }
+{
+    let cards = own_card_spans(alloc, tx, driver)?;
+    let held = own_held(alloc, tx, driver)?;
+    Ok(Timelines { cards, held })
+}
+
+/// Judges a driver's rows that were read.
+fn judge_read(
+    alloc: Global,
+    counts: Counts,
+    given: &Sources,
+    kept: &Timelines,
+) -> Result<Option<TableName>, TableFault>
+    ensures { IfOk result (λ found. (rows : Name → List Row) (r : DriverRow)
+        → IsReadDriver rows r counts given.now.files kept.now.cards given.now.hours kept.now.held → IsJudged rows (pos r.driver) found) }
+{
+    match judge(
+        alloc,
+        counts,
+        &given.files,
+        &kept.cards,
+        &given.hours,
+        &kept.held,
+    ) {
+        Ok(found) => Ok(found),
+        Err(_) => Err(TableFault::Memory),
+    }
+}
+
+/// Judges the rows of a driver whose row in `drivers` has these counts.
+fn judge_counted<S: Alter>(
+    alloc: Global,
+    tx: &mut Transaction<'_, S>,
+    driver: i64,
+    counts: Counts,
+) -> Result<Option<TableName>, TableFault>
+    ensures { Asks S.Store tx.old.conn tx.new.conn result (λ layout db found.
+        IsRegistered (own_in layout db driver TableName.Drivers) (Counted counts)
+        → IsJudged (own_in layout db driver) driver found) }
+{
+    let given = own_sources(alloc, tx, driver)?;
+    let kept = own_timelines(alloc, tx, driver)?;
+    judge_read(alloc, counts, &given, &kept)
+}
+
+/// Reads whether a driver has downloads.
+fn has_files<S: Alter>(tx: &mut Transaction<'_, S>, driver: i64) -> Result<bool, TableFault>
+    ensures { Asks S.Store tx.old.conn tx.new.conn result
+        (λ layout db found. HasRows (own_in layout db driver) TableName.Downloads found) }
+{
+    let rows = file_rows(tx, driver)?;
+    Ok(!rows.is_empty())
+}
+
+/// Reads whether a driver has rows of `card_spans`.
+fn has_cards<S: Alter>(tx: &mut Transaction<'_, S>, driver: i64) -> Result<bool, TableFault>
+    ensures { Asks S.Store tx.old.conn tx.new.conn result
+        (λ layout db found. HasRows (own_in layout db driver) TableName.CardSpans found) }
+{
+    let rows = card_span_rows(tx, driver)?;
+    Ok(!rows.is_empty())
+}
+
+/// Reads whether a driver has entries.
+fn has_hours<S: Alter>(tx: &mut Transaction<'_, S>, driver: i64) -> Result<bool, TableFault>
+    ensures { Asks S.Store tx.old.conn tx.new.conn result
+        (λ layout db found. HasRows (own_in layout db driver) TableName.EntryRows found) }
+{
+    let rows = hour_rows(tx, driver)?;
+    Ok(!rows.is_empty())
+}
+
+/// Reads whether a driver has rows of `held`.
+fn has_held<S: Alter>(tx: &mut Transaction<'_, S>, driver: i64) -> Result<bool, TableFault>
+    ensures { Asks S.Store tx.old.conn tx.new.conn result
+        (λ layout db found. HasRows (own_in layout db driver) TableName.Held found) }
+{
+    let rows = held_rows(tx, driver)?;
+    Ok(!rows.is_empty())
+}
+
+/// Whether a driver has rows in two tables.
+#[derive(Clone, Copy)]
+pub struct Both {
+    pub first: bool,
+    pub second: bool,
+}
+
+/// Reads whether a driver has downloads, and rows of `card_spans`.
+fn has_given<S: Alter>(tx: &mut Transaction<'_, S>, driver: i64) -> Result<Both, TableFault>
+    ensures { Asks S.Store tx.old.conn tx.new.conn result
+        (λ layout db found. HasRows (own_in layout db driver) TableName.Downloads found.first
+        × HasRows (own_in layout db driver) TableName.CardSpans found.second) }
+{
+    let first = has_files(tx, driver)?;
+    let second = has_cards(tx, driver)?;
+    Ok(Both { first, second })
+}
+
+/// Reads whether a driver has entries, and rows of `held`.
+fn has_entered<S: Alter>(tx: &mut Transaction<'_, S>, driver: i64) -> Result<Both, TableFault>
+    ensures { Asks S.Store tx.old.conn tx.new.conn result
+        (λ layout db found. HasRows (own_in layout db driver) TableName.EntryRows found.first
+        × HasRows (own_in layout db driver) TableName.Held found.second) }
+{
+    let first = has_hours(tx, driver)?;
+    let second = has_held(tx, driver)?;
+    Ok(Both { first, second })
+}
+
+/// Judges the rows of a driver who has no row in `drivers`.
+fn judge_unregistered<S: Alter>(
+    tx: &mut Transaction<'_, S>,
+    driver: i64,
+) -> Result<Option<TableName>, TableFault>
+    ensures { Asks S.Store tx.old.conn tx.new.conn result (λ layout db found.
+        own_in layout db driver TableName.Drivers ≡ [] → IsJudged (own_in layout db driver) driver found) }
+{
+    let given = has_given(tx, driver)?;
+    let entered = has_entered(tx, driver)?;
+    Ok(judge_absent(given.first, given.second, entered.first, entered.second))
+}
+
+/// Judges the stored rows of a driver: returns the first table at which no state has them, or none.
+pub fn judge_driver<S: Alter>(
+    alloc: Global,
+    tx: &mut Transaction<'_, S>,
+    driver: i64,
+) -> Result<Option<TableName>, TableFault>
+    ensures { Asks S.Store tx.old.conn tx.new.conn result (λ layout db found. IsJudged (own_in layout db driver) driver found) }
+{
+    let row = own_row(tx, driver)?;
+    match row {
+        Registered::No => judge_unregistered(tx, driver),
+        Registered::Unfit => Ok(Some(TableName::Drivers)),
+        Registered::Counted(counts) => judge_counted(alloc, tx, driver, counts),
+    }
+}
