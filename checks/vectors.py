@@ -28,7 +28,7 @@ MAKERS: dict[str, Callable[[], list[Made]]] = {
 }
 LARGEST = 4_000_000  # bytes of the folder
 LONGEST_WHY = 260
-TAGGED, TRIED, RUN = 60, 15, 40  # of so many cases, or changes, one has its tags found, is tried, or is run by itself
+TAGGED, TRIED, RUN = 60, 15, 40  # each 60th case has its tags found anew, each 15th change is tried, each 40th case is run by run.py
 CHANGES = os.path.join(vector_sets.FOLDER, "changes.jsonl")
 CHOICES = os.path.join(vector_sets.FOLDER, "choices.md")
 CHANGE_KEYS = ["program", "function", "old", "new", "turn"]
