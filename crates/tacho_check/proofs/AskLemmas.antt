@@ -1,12 +1,11 @@
 -- What a reading of a driver's rows of one table shows.
 use Rattle.std.proofs.Common.{◌≡◌, ◌∙◌, ℕ, ℤ, pos, negsuc, ◌^◌, leb, Bool, true, false, cond, ◌&&◌, List, [], ◌∷◌, ◌++◌, drop, map, filter, flat_map, codes, None, Some, unwrap_or, refl, sym, ap, subst}
 use Rattle.std.specs.List.{list_all}
-use Rattle.std.specs.List.Sorted.{IsPermutation, IsSorted}
+use Rattle.std.specs.List.Sorted.{IsPermutation}
 use Rattle.std.specs.Ordering.{is_eq, int_eq}
 use Rattle.std.proofs.lemmas.List.Sorted.{IsPermutation-map}
 use Rattle.sqlite_value.specs.declared.value.Value.{Value}
 use Rattle.sqlite_value.specs.declared.value.Value.TheVariants.{Null, Int}
-use Rattle.sqlite_value.specs.declared.keys.Key.{Key}
 use Rattle.sqlite_value.specs.declared.keys.Collation.TheVariants.{Binary}
 use Rattle.sqlite_value.specs.Order.{Row, column, value_cmp}
 use Rattle.sqlite_value.proofs.OrderLemmas.{value_cmp-Int}
@@ -24,8 +23,7 @@ use Rattle.sqlite_sql.specs.declared.ops.BinaryOp.TheVariants.{Compare}
 use Rattle.sqlite_sql.specs.declared.ops.CompareOp.TheVariants.{Eq}
 use Rattle.sqlite_sql.specs.Ops.{binary, is_true, from_truth}
 use Rattle.sqlite_sql.specs.Term.{Term, Env, lit, col, op2, holds, eval_all}
-use Rattle.sqlite_sql.specs.Query.{Query, inner, end, IsAnswer, output, output_cmp, Output}
-use Rattle.sqlite_rules.specs.Lists.{Has}
+use Rattle.sqlite_sql.specs.Query.{Query, inner, end, IsAnswer, output, Output}
 use Rattle.sqlite_rules.proofs.ListLemmas.{all_from, has_filtered}
 use Rattle.tacho_tables.specs.Schema.{Layout, Made, Carried, archive_schema, entry_tree}
 use Rattle.tacho_tables.proofs.Stored.{map_same}
@@ -60,7 +58,7 @@ simple t tests shown =
     }
 
 -- all tests hold for the row
-abbrev passes : List Term → Row → Row → Bool
+abbrev pub passes : List Term → Row → Row → Bool
 passes tests params r = list_all (holds (params ∷ r ∷ [])) tests
 
 -- the matches of one table are its rows that pass the tests
@@ -76,7 +74,7 @@ matched tests params (r ∷ rows) = step (passes tests params r) _ _ (matched te
     step false xs ys same = same
 
 -- what such a query shows, up to order
-shows : (t : ℕ) (tests shown : List Term) (db : Trees) (params : Row) (rows : List Row) → IsAnswer (simple t tests shown) db params rows
+pub shows : (t : ℕ) (tests shown : List Term) (db : Trees) (params : Row) (rows : List Row) → IsAnswer (simple t tests shown) db params rows
     → IsPermutation (map (λ (r : Row). eval_all shown (params ∷ r ∷ [])) (filter (passes tests params) (db t))) rows
 shows t tests shown db params rows a =
     let passed = filter (passes tests params) (db t) in
@@ -89,7 +87,7 @@ shows t tests shown db params rows a =
     (IsPermutation-map (λ (o : Output). o.1) (map out passed) a.ordered same))
 
 -- a query without earlier tables reads the stored ones
-none_given : (db : Trees) (t : ℕ) → overlay db [] t ≡ db t
+pub none_given : (db : Trees) (t : ℕ) → overlay db [] t ≡ db t
 none_given db t = elim (leb (2 ^ 31) t) as (λ b. unwrap_or (cond b None None) (db t) ≡ db t) [ true ↦ refl | false ↦ refl ]
 
 -- ---- a driver's rows
@@ -102,11 +100,11 @@ test_is : (b : Bool) → is_true (from_truth (Some b)) ≡ b
 test_is true = refl
 test_is false = refl
 
-int_test : (m n : ℤ) → is_true (binary (Compare Eq Binary) (Int m) (Int n)) ≡ int_eq m n
+pub int_test : (m n : ℤ) → is_true (binary (Compare Eq Binary) (Int m) (Int n)) ≡ int_eq m n
 unfolding binary
 int_test m n = test_is (is_eq (value_cmp (Int m) (Int n))) ∙ ap is_eq (value_cmp-Int m n)
 
-and-true : (b : Bool) → (b && true) ≡ b
+pub and-true : (b : Bool) → (b && true) ≡ b
 and-true true = refl
 and-true false = refl
 

@@ -8,7 +8,7 @@ use Rattle.sqlite_value.specs.declared.value.Value.TheVariants.{Int, Blob}
 use Rattle.sqlite_value.specs.Order.{Row}
 use Rattle.tacho_check.specs.declared.files.FileRow.{FileRow}
 use Rattle.tacho_check.specs.declared.file_parsing.FileParts.{FileParts}
-use Rattle.tacho_check.specs.Parsed.{file_shown, IsFileOf, AreFilesOf}
+use Rattle.tacho_check.specs.Parsed.{IsFileOf, AreFilesOf}
 use Rattle.tacho_check.specs.Typed.{NeverFall}
 use Rattle.tacho_check.specs.Own.{AreFileParts, shown_of_file, AreFilesInOrder}
 use Rattle.tacho_check.proofs.ParsedLemmas.{three_columns}

@@ -1,11 +1,11 @@
 -- Card files that were read from a driver's rows.
-use Rattle.std.proofs.Common.{codes, ◌≡◌, ◌≢◌, ℕ, ℤ, pos, List, [], ◌∷◌, drop, map, Option, None, Some, refl, sym, subst}
+use Rattle.std.proofs.Common.{codes, ◌≡◌, ◌≢◌, ℕ, pos, List, [], ◌∷◌, drop, map, Option, None, Some, refl, sym, subst}
 use Rattle.std.specs.Prelude.{Vec}
 use Rattle.std.specs.declared.alloc.Global.{Global}
 use Rattle.std.specs.List.Sorted.{IsPermutation}
 use Rattle.std.proofs.lemmas.List.Sorted.{IsPermutation-trans}
 use Rattle.sqlite.specs.Kind.TheVariants.{Integer, Blob}
-use Rattle.sqlite_value.specs.declared.value.Value.TheVariants.{Null, Int}
+use Rattle.sqlite_value.specs.declared.value.Value.TheVariants.{Null}
 use Rattle.sqlite_value.specs.Order.{Row, column}
 use Rattle.sqlite_trees.proofs.ListLemmas.{map-map}
 use Rattle.tacho_tables.specs.Schema as made

@@ -13,7 +13,6 @@ use Rattle.sqlite_sql.specs.Ops.{is_null}
 use Rattle.sqlite_schema.specs.declared.schema.Kind.TheVariants as kind
 use Rattle.sqlite_schema.specs.Rules.{are_typed, are_present}
 use Rattle.sqlite_trees.proofs.ListLemmas.{pull_back, all-permutation}
-use Rattle.sqlite_rules.specs.Lists.{Has}
 use Rattle.sqlite_rules.proofs.ListLemmas.{all_from, has_filtered}
 use Rattle.tacho_tables.specs.Schema as made
 use Rattle.tacho_tables.specs.Rows.{EntryRow, entry_columns}

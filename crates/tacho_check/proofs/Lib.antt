@@ -5,6 +5,7 @@ mod FileLemmas
 mod MemberLemmas
 mod OwnLemmas
 mod UniqueLemmas
+mod OrderedLemmas
 mod SpreadLemmas
 mod StateLemmas
 mod WitnessLemmas
@@ -25,6 +26,14 @@ mod TypeLemmas
 mod FileReadLemmas
 mod HourReadLemmas
 mod RegisteredLemmas
+mod CurrentAskLemmas
+mod CurrentLemmas
+mod LearnLemmas
+mod AloneLemmas
 mod DriverAskLemmas
 mod JudgingLemmas
 mod ThenLemmas
+mod NumberLemmas
+mod ParentLemmas
+mod CheckLemmas
+mod StoreLemmas

@@ -1,5 +1,5 @@
 -- A reading whose rows are parsed, and the types of stored columns.
-use Rattle.std.proofs.Common.{◌≡◌, ℤ, ℕ, pos, Bool, true, List, ◌∷◌, [], Option, None, Some, Result, Ok, Err, IfOk, OnOk, IsErr, codes, drop, slice_get, refl, sym, subst}
+use Rattle.std.proofs.Common.{◌≡◌, ℕ, true, [], Some, Result, Ok, Err, IfOk, OnOk, IsErr, codes, drop, slice_get, refl}
 use Rattle.std.specs.Borrow.{MutBor}
 use Rattle.std.specs.List.{AllByRecursion}
 use Rattle.std.proofs.lemmas.Bool.{and_parts}

@@ -109,10 +109,10 @@ module _ (layout : Layout) (db : Trees) (it : IsReadable layout db) (sounds : (n
   row_member : (r : Row) → Has (db made.driver_rows) r → (m : Member) × IsStored m × (row_of m ≡ r)
   row_member r has = go (own id) where
     id : ℤ
-    id = (it.drivers.numbered r has).0
+    id = (it.numbered.drivers.numbered r has).0
 
     mine : Has (own_rows id (db made.driver_rows)) r
-    mine = has_kept (is_own id) (db made.driver_rows) r has (ap (is_number id) (it.drivers.numbered r has).1 ∙ int_self id)
+    mine = has_kept (is_own id) (db made.driver_rows) r has (ap (is_number id) (it.numbered.drivers.numbered r has).1 ∙ int_self id)
 
     go : IsOwnSound (own_in layout db id) id Held → (m : Member) × IsStored m × (row_of m ≡ r)
     go (inl none) = absurd (subst (λ (xs : List Row). Has xs r) (none Drivers (before_last Drivers)) mine)
@@ -205,19 +205,19 @@ module _ (layout : Layout) (db : Trees) (it : IsReadable layout db) (sounds : (n
         sound = it.sound;
         meta = it.meta;
         drivers = record {
-          apart = it.drivers.apart;
+          apart = it.numbered.drivers.apart;
           same = IsPermutation-same _ _ (map-map driver_row (λ (m : Member). driver_columns m.driver) members.0 ∙ members.2);
         };
-        downloads = table_stands download_columns downloads_in (db made.download_rows) members.0 are_distinct it.downloads
+        downloads = table_stands download_columns downloads_in (db made.download_rows) members.0 are_distinct it.numbered.downloads
             (stored_in Downloads)
             (covered Downloads (db made.download_rows) refl (downloads_have layout db it.sound));
-        card_spans = table_stands span_columns cards_in (db made.card_span_rows) members.0 are_distinct it.card_spans (stored_in CardSpans)
+        card_spans = table_stands span_columns cards_in (db made.card_span_rows) members.0 are_distinct it.numbered.card_spans (stored_in CardSpans)
             (covered CardSpans (db made.card_span_rows) refl (card_spans_have layout db it.sound));
-        entries = table_stands entry_columns entries_in (db (made.entry_tree layout)) members.0 are_distinct it.entries
+        entries = table_stands entry_columns entries_in (db (made.entry_tree layout)) members.0 are_distinct it.numbered.entries
             (stored_in EntryRows)
             (covered EntryRows (db (made.entry_tree layout)) refl (entries_have layout db it.sound));
         old_entries = it.old_entries;
-        held = table_stands span_columns held_in (db made.held_rows) members.0 are_distinct it.held (stored_in Held)
+        held = table_stands span_columns held_in (db made.held_rows) members.0 are_distinct it.numbered.held (stored_in Held)
             (covered Held (db made.held_rows) refl (held_have layout db it.sound));
       },
       members_represent members.0 (whole members.0 members.1) are_distinct,

@@ -1,5 +1,5 @@
 -- The types of stored columns, by the rules of the schema.
-use Rattle.std.proofs.Common.{◌≡◌, ◌∙◌, ℕ, zero, suc, ◌+◌, ◌<◌, ◌≤◌, ◌||◌, true, not, true≢false, List, [], ◌∷◌, None, Some, codes, drop, length, slice_get, refl, sym, ap, subst, arith}
+use Rattle.std.proofs.Common.{◌≡◌, ◌∙◌, ℕ, zero, suc, ◌+◌, ◌<◌, ◌≤◌, ◌||◌, true, not, true≢false, List, [], ◌∷◌, None, Some, drop, length, slice_get, refl, sym, ap, subst, arith}
 use Rattle.std.specs.List.{AllByRecursion}
 use Rattle.std.proofs.lemmas.Bool.{and_parts}
 use Rattle.sqlite_value.specs.declared.value.Value.{Value}
@@ -115,7 +115,7 @@ present_column at (d ∷ cs) r (suc k) c present is need =
     subst (λ (j : ℕ). not (is_null (column r j)) ≡ true) place (present_column (at + 1) cs r k c both.1 is need)
 
 -- a row without its number
-column_after : (r : Row) (k : ℕ) → column (drop 1 r) k ≡ column r (suc k)
+pub column_after : (r : Row) (k : ℕ) → column (drop 1 r) k ≡ column r (suc k)
 column_after [] k = refl
 column_after (v ∷ r) k = refl
 

@@ -40,7 +40,7 @@ first_number name more (v ∷ Blob b ∷ vs) present typed = absurd (let e = typ
 
 module _ (layout : Layout) (db : Trees) (sound : IsSound (archive_schema layout) db) where
   -- the rows of a table pass its rules
-  rows_pass : (rule : Constraint) (at : ℕ) (table : Table) → slice_get (archive_schema layout).tables at ≡ Some table
+  pub rows_pass : (rule : Constraint) (at : ℕ) (table : Table) → slice_get (archive_schema layout).tables at ≡ Some table
       → AllByRecursion (λ row. passes rule (archive_schema layout) db table row ≡ true) (db table.tree)
   rows_pass rule at table is =
       all_has (λ (t : Table). AllByRecursion (λ row. passes rule (archive_schema layout) db t row ≡ true) (db t.tree))
@@ -63,28 +63,28 @@ module _ (layout : Layout) (db : Trees) (sound : IsSound (archive_schema layout)
 
 -- ---- the tables of the schema
 
-drivers_at : (layout : Layout) → slice_get (archive_schema layout).tables 1 ≡ Some (record made.drivers { tree = 1 })
+pub drivers_at : (layout : Layout) → slice_get (archive_schema layout).tables 1 ≡ Some (record made.drivers { tree = 1 })
 drivers_at Made = refl
 drivers_at Carried = refl
 
-downloads_at : (layout : Layout) → slice_get (archive_schema layout).tables 2 ≡ Some (record made.downloads { tree = 4 })
+pub downloads_at : (layout : Layout) → slice_get (archive_schema layout).tables 2 ≡ Some (record made.downloads { tree = 4 })
 downloads_at Made = refl
 downloads_at Carried = refl
 
-card_spans_at : (layout : Layout) → slice_get (archive_schema layout).tables 3 ≡ Some
+pub card_spans_at : (layout : Layout) → slice_get (archive_schema layout).tables 3 ≡ Some
     (record (made.spans (codes "card_spans")) { tree = 6 })
 card_spans_at Made = refl
 card_spans_at Carried = refl
 
-held_at : (layout : Layout) → slice_get (archive_schema layout).tables 5 ≡ Some (record (made.spans (codes "held")) { tree = 10 })
+pub held_at : (layout : Layout) → slice_get (archive_schema layout).tables 5 ≡ Some (record (made.spans (codes "held")) { tree = 10 })
 held_at Made = refl
 held_at Carried = refl
 
-abbrev entry_place : Layout → ℕ
+abbrev pub entry_place : Layout → ℕ
 entry_place Made = 4
 entry_place Carried = 6
 
-entries_at : (layout : Layout) → slice_get (archive_schema layout).tables (entry_place layout) ≡ Some
+pub entries_at : (layout : Layout) → slice_get (archive_schema layout).tables (entry_place layout) ≡ Some
     (record made.entry_rows { tree = entry_tree layout })
 entries_at Made = refl
 entries_at Carried = refl

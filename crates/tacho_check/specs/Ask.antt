@@ -1,5 +1,5 @@
 -- Private to tacho_check: Readings of a driver's rows.
-use Rattle.std.specs.Prelude.{ℕ, ℤ, List, [], ◌∷◌, codes, map, Result, IfOk, IsPermutation}
+use Rattle.std.specs.Prelude.{ℕ, List, [], ◌∷◌, codes, map, Result, IfOk, IsPermutation}
 use Rattle.std.specs.Borrow.{MutBor}
 use Rattle.sqlite.specs.Held.{Held, state}
 use Rattle.sqlite.specs.Order.{Row, column}

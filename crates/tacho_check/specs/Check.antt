@@ -1,4 +1,4 @@
--- Private to tacho_check: Whether the stored rows of a driver are those of some state, judged table by table.
+-- Trusted: Whether the stored rows of a driver are those of some state, judged table by table.
 use Rattle.std.specs.Prelude.{◌≡◌, ℕ, ℤ, ◌<◌, ◌≤◌, ◌<ℤ◌, Bool, false, List, codes, map, drop, filter, IsPermutation}
 use Rattle.std.specs.Ordering.{int_eq}
 use Rattle.sqlite.specs.declared.types.Value.{Value}
@@ -82,17 +82,21 @@ pub record AreNumbered (rows : List Row) : Type 0 where
   pub numbered : (r : Row) → Has rows r → (id : ℤ) × (rowid r ≡ Int id)
   pub apart : (a b : Row) → Has rows a → Has rows b → rowid a ≡ rowid b → a ≡ b
 
+-- no row number of a table occurs twice
+pub record AreAllNumbered (layout : Layout) (db : Trees) : Type 0 where
+  pub drivers : AreNumbered (db tree.driver_rows)
+  pub downloads : AreNumbered (db tree.download_rows)
+  pub card_spans : AreNumbered (db tree.card_span_rows)
+  pub entries : AreNumbered (db (entry_tree layout))
+  pub held : AreNumbered (db tree.held_rows)
+
 -- The rows are a database of the archive's schema, whose rows the store has numbered; `meta` has version 2, and the table of schema 1 is
 -- empty.
 pub record IsReadable (layout : Layout) (db : Trees) : Type 0 where
   pub sound : IsSound (archive_schema layout) db
   pub meta : IsVersion 2 db
   pub old_entries : HasNoOldEntries layout db
-  pub drivers : AreNumbered (db tree.driver_rows)
-  pub downloads : AreNumbered (db tree.download_rows)
-  pub card_spans : AreNumbered (db tree.card_span_rows)
-  pub entries : AreNumbered (db (entry_tree layout))
-  pub held : AreNumbered (db tree.held_rows)
+  pub numbered : AreAllNumbered layout db
 
 -- ---- soundness
 

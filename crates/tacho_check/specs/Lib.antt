@@ -10,3 +10,7 @@ pub mod Ask
 pub mod Parsed
 pub mod Own
 pub mod Registered
+pub mod Current
+pub mod Numbers
+pub mod Checked
+pub mod Text

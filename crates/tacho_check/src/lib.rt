@@ -1,9 +1,9 @@
 //! Whether the archive's tables represent a state. If they don't, the first driver and the first table for which no state has such rows.
-//!
-//! No command uses this crate yet. `judge_driver` reads the rows of one driver and judges them. To do so for each driver in turn is open.
 #![tactic(auto)]
 
 pub mod asking;
+pub mod checking;
+pub mod current;
 pub mod file_parsing;
 pub mod files;
 pub mod hour_parsing;
@@ -11,11 +11,15 @@ pub mod hours;
 pub mod judgement;
 pub mod judging;
 pub mod laws;
+pub mod numbers;
 pub mod own;
 pub mod parsing;
 pub mod registered;
 mod statement;
 mod table;
+mod text;
 pub mod wide;
 
+pub use checking::check;
 pub use table::{TableName, Unsound};
+pub use text::check_text;

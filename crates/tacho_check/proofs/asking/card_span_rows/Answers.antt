@@ -24,6 +24,6 @@ returns g c =
       found = λ clean is it. IfOk-weaker c.read.result _ _
           (λ rows shown. asked (archive_schema is.layout) cards_text 6 three span_names
           (cards_is is.layout) three_shown three_parts c.args.driver old new rows.items is.schema
-          shown it.card_spans (card_spans_have is.layout old.now.trees it.sound))
+          shown it.numbered.card_spans (card_spans_have is.layout old.now.trees it.sound))
           (rw (c.params-to_sql.ensures, to_z-of_z fits) at (told.shown clean));
     }

@@ -24,6 +24,6 @@ returns g c =
       found = λ clean is it. IfOk-weaker c.read.result _ _
           (λ rows shown. asked (archive_schema is.layout) files_text 4 three file_names
           (files_is is.layout) three_shown three_parts c.args.driver old new rows.items is.schema
-          shown it.downloads (downloads_have is.layout old.now.trees it.sound))
+          shown it.numbered.downloads (downloads_have is.layout old.now.trees it.sound))
           (rw (c.params-to_sql.ensures, to_z-of_z fits) at (told.shown clean));
     }

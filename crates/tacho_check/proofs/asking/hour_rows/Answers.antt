@@ -24,6 +24,6 @@ returns g c =
       found = λ clean is it. IfOk-weaker c.read.result _ _
           (λ rows shown. asked (archive_schema is.layout) hours_text (entry_tree is.layout) five hour_names
           (hours_is is.layout) five_shown five_parts c.args.driver old new rows.items is.schema
-          shown it.entries (entries_have is.layout old.now.trees it.sound))
+          shown it.numbered.entries (entries_have is.layout old.now.trees it.sound))
           (rw (c.params-to_sql.ensures, to_z-of_z fits) at (told.shown clean));
     }

@@ -20,6 +20,6 @@ returns g c =
         same = λ clean known. told.same clean (plain_in driver_text (λ layout. (driver_is layout).plain) _ known);
       };
       found = λ clean is it. IfOk-weaker c.read.result _ _
-          (λ rows shown. asked_driver is.layout c.args.driver old new rows.items is.schema shown it.drivers)
+          (λ rows shown. asked_driver is.layout c.args.driver old new rows.items is.schema shown it.numbered.drivers)
           (rw (c.params-to_sql.ensures, to_z-of_z fits) at (told.shown clean));
     }

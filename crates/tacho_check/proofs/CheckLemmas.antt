@@ -1,0 +1,146 @@
+-- A check of all drivers, in the order of their numbers.
+use Rattle.std.proofs.Common.{◌≡◌, ◌∙◌, ℕ, zero, suc, ℤ, ◌+◌, ◌-◌, ◌<◌, ◌≤◌, ◌<ℤ◌, ◌≤ℤ◌, inl, inr, true, false, List, [], ◌∷◌, None, Some, take, map, length, Result, Ok, Err, IfOk, refl, sym, ap, subst, arith}
+use Rattle.std.specs.List.{Contains, slice_index_or}
+use Rattle.std.specs.List.Sorted.{IsPermutation, IsSorted}
+use Rattle.std.specs.Ordering.{is_lt, int_cmp, int_eq}
+use Rattle.std.proofs.lemmas.Int.{ints}
+use Rattle.std.proofs.lemmas.List.{take_all}
+use Rattle.std.proofs.lemmas.List.Sorted.{IsPermutation-sym}
+use Rattle.sqlite_value.specs.declared.value.Value.TheVariants.{Int}
+use Rattle.sqlite_value.specs.Order.{Row}
+use Rattle.sqlite_trees.specs.Tree.{Trees}
+use Rattle.sqlite_trees.proofs.ListLemmas.{all-permutation}
+use Rattle.sqlite_rules.specs.Lists.{Has}
+use Rattle.sqlite_rules.proofs.ListLemmas.{all_has, all_from, all_more, has_filtered, contains_had}
+use Rattle.sqlite_rules.proofs.ProbeLemmas.{mapped_has}
+use Rattle.tacho_time.proofs.CanonicalLemmas.{lt_or_le}
+use Rattle.tacho_tables.specs.Schema.{Layout}
+use Rattle.tacho_tables.specs.Schema as made
+use Rattle.tacho_check.specs.declared.table.TableName.{TableName}
+use Rattle.tacho_check.specs.declared.table.TableName.TheVariants.{Held}
+use Rattle.tacho_check.specs.Check.{is_number, is_own, own_rows, IsReadable, IsSoundAt}
+use Rattle.tacho_check.specs.Checked.{IsChecked, AreSoundIn}
+use Rattle.tacho_check.specs.Judged.{IsJudged}
+use Rattle.tacho_check.specs.Member.{own_in}
+use Rattle.tacho_check.specs.Numbers.{number_shown, number_row, AreAllNumbers}
+use Rattle.tacho_check.proofs.OwnLemmas.{own_sound, sound_own}
+use Rattle.tacho_check.proofs.ParentLemmas.{none_anywhere}
+use Rattle.tacho_check.proofs.SpreadLemmas.{has_unmapped}
+use Rattle.tacho_check.proofs.StateLemmas.{all_represent}
+
+-- ---- numbers in order
+
+up_self : (a : ℤ) → a ≤ℤ a
+up_self a = grind (arith, ints)
+
+up_then : (a b c : ℤ) → a ≤ℤ b → is_lt (int_cmp c b) ≡ false → a ≤ℤ c
+up_then a b c low next = grind (arith, ints)
+
+-- none is above a later one
+later_up : (ns : List ℤ) → IsSorted int_cmp ns → (i n : ℕ) (d : ℤ) → i + n < length ns → slice_index_or ns i d ≤ℤ slice_index_or ns (i + n) d
+later_up ns order i zero d within =
+    let same : i ≡ i + 0 = omega arith in
+    subst (λ (j : ℕ). slice_index_or ns i d ≤ℤ slice_index_or ns j d) same (up_self (slice_index_or ns i d))
+later_up ns order i (suc n) d within =
+    let place : i + n + 1 ≡ i + suc n = omega arith in
+    subst (λ (j : ℕ). slice_index_or ns i d ≤ℤ slice_index_or ns j d) place
+    (up_then (slice_index_or ns i d) (slice_index_or ns (i + n) d) (slice_index_or ns (i + n + 1) d)
+    (later_up ns order i n d (omega (arith, within))) (order (i + n) d (omega arith) (omega (arith, within))))
+
+not_both : (a b : ℤ) → a ≤ℤ b → b <ℤ a → ⊥
+not_both a b low high = grind (arith, ints)
+
+-- an element at an earlier place is among those before it
+taken : {X : Type 0} (xs : List X) (i j : ℕ) (x : X) → j < i → j < length xs → x ≡ slice_index_or xs j x → Has (take i xs) x
+taken [] i j x early within is = absurd (omega (arith, within))
+taken (y ∷ xs) zero j x early within is = absurd (omega (arith, early))
+taken (y ∷ xs) (suc i) zero x early within is = inl is
+taken (y ∷ xs) (suc i) (suc j) x early within is = inr (taken xs i j x (omega (arith, early)) (omega (arith, within)) is)
+
+-- what stands at a place doesn't depend on the value for other places
+one_value : {X : Type 0} (xs : List X) (i : ℕ) (d e : X) → i < length xs → slice_index_or xs i d ≡ slice_index_or xs i e
+one_value [] i d e within = absurd (omega (arith, within))
+one_value (x ∷ xs) zero d e within = refl
+one_value (x ∷ xs) (suc i) d e within = one_value xs i d e (omega (arith, within))
+
+-- a number of the list that is below the one at a place stands before it
+stands_before : (ns : List ℤ) → IsSorted int_cmp ns → (i : ℕ) (x : ℤ) → i < length ns → x ≡ slice_index_or ns i x → (m : ℤ) → Has ns m → m <ℤ x
+    → Has (take i ns) m
+stands_before ns order i x within is m has low = go (contains_had ns m has) where
+  go : Contains ns m → Has (take i ns) m
+  go it = elim (lt_or_le it.0 i) [ inl early ↦ taken ns i it.0 m early it.1 (sym it.2) | inr late ↦ absurd (not_both x m (up late) low) ] where
+    up : i ≤ it.0 → x ≤ℤ m
+    up late =
+        let place : i + (it.0 - i) ≡ it.0 = omega (arith, late) in
+        let rise = later_up ns order i (it.0 - i) m (rw place it.1) in
+        let first : x ≡ slice_index_or ns i m = is ∙ one_value ns i x m within in
+        subst (λ (z : ℤ). z ≤ℤ m) (sym first)
+        (subst (λ (z : ℤ). slice_index_or ns i m ≤ℤ z) it.2 (subst (λ (j : ℕ). slice_index_or ns i m ≤ℤ slice_index_or ns j m) place rise))
+
+-- ---- all drivers
+
+-- a fact of an answer that holds under a premise
+pub if_so : {A E : Type 0} (r : Result A E) (P : Type 0) (Q : A → Type 0) → (P → IfOk r Q) → IfOk r (λ x. P → Q x)
+if_so (Ok x) P Q h = h
+if_so (Err e) P Q h = tt
+
+has_permuted : {X : Type 0} (xs ys : List X) (x : X) → IsPermutation xs ys → Has xs x → Has ys x
+has_permuted xs ys x same has =
+    all_has (Has ys) xs x (all-permutation (Has ys) ys xs (IsPermutation-sym xs ys same) (all_from (Has ys) ys (λ e h. h))) has
+
+is_one : (a b : ℤ) → int_eq a b ≡ true → a ≡ b
+is_one a b h = grind (arith, ints)
+
+module _ (layout : Layout) (db : Trees) (ready : IsReadable layout db) where
+  -- a driver who has a row in `drivers` has a number of the list
+  listed : (ns : List ℤ) → AreAllNumbers (db made.driver_rows) ns → (m : ℤ) (r : Row) → Has (own_rows m (db made.driver_rows)) r → Has ns m
+  listed ns all m r has =
+      let own = has_filtered (is_own m) (db made.driver_rows) r has in
+      let number = ready.numbered.drivers.numbered r own.0 in
+      let same : number.0 ≡ m = is_one number.0 m (sym (ap (is_number m) number.1) ∙ own.1) in
+      let shown : number_shown r ≡ number_row m = ap (λ v. v ∷ []) (number.1 ∙ ap Int same) in
+      let there = has_permuted (map number_shown (db made.driver_rows)) (map number_row ns) (number_row m) all.all
+      (subst (Has (map number_shown (db made.driver_rows))) shown (mapped_has number_shown (db made.driver_rows) r own.0)) in
+      let one = has_unmapped number_row ns (number_row m) there in
+      let alike : m ≡ one.0 = let e = one.2 in cc in
+      subst (Has ns) (sym alike) one.1
+
+  -- a driver who has none has no rows, so they are sound
+  absent_sound : (m : ℤ) → own_rows m (db made.driver_rows) ≡ [] → IsSoundAt layout db m Held
+  absent_sound m none = own_sound layout db Held m (inl (λ j before. none_anywhere layout db ready.sound ready.numbered.drivers m none j))
+
+  -- a driver's rows are sound if they are where the driver has a number of the list
+  sound_if : (ns : List ℤ) → AreAllNumbers (db made.driver_rows) ns → (m : ℤ) → (Has ns m → IsSoundAt layout db m Held) → IsSoundAt layout db m Held
+  sound_if ns all m each = go (own_rows m (db made.driver_rows)) refl where
+    go : (rows : List Row) → own_rows m (db made.driver_rows) ≡ rows → IsSoundAt layout db m Held
+    go [] e = absent_sound m e
+    go (r ∷ rows) e = each (listed ns all m r (subst (λ (xs : List Row). Has xs r) (sym e) (inl refl)))
+
+  -- one more driver's rows are sound
+  pub one_more : (ns : List ℤ) (i : ℕ) (x : ℤ) → i < length ns → x ≡ slice_index_or ns i x → AreSoundIn layout db (take i ns)
+      → IsJudged (own_in layout db x) x None → AreSoundIn layout db (take (i + 1) ns)
+  one_more ns i x within is done sound =
+      all_more (λ m. IsSoundAt layout db m Held) ns i x within is done (own_sound layout db Held x sound)
+
+  -- all are sound
+  pub all_checked : (ns : List ℤ) (i : ℕ) → AreAllNumbers (db made.driver_rows) ns → length ns ≤ i → AreSoundIn layout db (take i ns)
+      → IsChecked layout db None
+  all_checked ns i all past done =
+      all_represent layout db ready
+      (λ m. sound_if ns all m (λ has. all_has (λ k. IsSoundAt layout db k Held) ns m
+      (subst (λ (xs : List ℤ). AreSoundIn layout db xs) (take_all i ns past) done) has))
+
+  -- a driver whose rows aren't sound is the first
+  pub found_checked : (ns : List ℤ) (i : ℕ) (x : ℤ) → AreAllNumbers (db made.driver_rows) ns → i < length ns → x ≡ slice_index_or ns i x
+      → AreSoundIn layout db (take i ns) → (k : TableName) → IsJudged (own_in layout db x) x (Some k)
+      → IsChecked layout db (Some (record { driver = x; table = k }))
+  found_checked ns i x all within is done k unsound = record {
+    layout = layout;
+    sound = ready.sound;
+    at = record {
+      unsound = λ sound. unsound.0 (sound_own layout db k x sound);
+      before = λ j first. own_sound layout db j x (unsound.1 j first);
+    };
+    below = λ m low. sound_if ns all m (λ has. all_has (λ n. IsSoundAt layout db n Held) (take i ns) m done
+        (stands_before ns all.sorted i x within is m has low));
+  }

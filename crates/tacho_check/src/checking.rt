@@ -1,0 +1,111 @@
+//! Whether the tables of an archive represent a state.
+
+ghost use Rattle.std.specs.Prelude.{◌≡◌, false, IfOk, OnOk};
+ghost use Rattle.sqlite.specs.Held.{state};
+ghost use Rattle.sqlite.specs.Tree.{Trees};
+ghost use Rattle.sqlite_trees.specs.View.{IsClean};
+ghost use Rattle.tacho_tables.specs.Tables.{IsArchive};
+ghost use Rattle.tacho_check.specs.Ask.{Asks};
+ghost use Rattle.tacho_check.specs.Check.{AreAllNumbered, IsReadable};
+ghost use Rattle.tacho_check.specs.Checked.{IsChecked, Checks};
+
+use crate::current::ask_current;
+use crate::judging::judge_driver;
+use crate::numbers::driver_numbers;
+use crate::table::Unsound;
+use sqlite::{Alter, Connection, Transaction};
+use sqlite_trees::store::Store;
+use std::alloc::Global;
+use tacho_reading::fault::store_fault;
+use tacho_state::StoreFault;
+use tacho_tables::{TableFault, opening};
+
+/// Judges the rows of all drivers in the order of their numbers, within a transaction.
+fn check_in<S: Alter>(
+    alloc: Global,
+    tx: &mut Transaction<'_, S>,
+) -> Result<Option<Unsound>, TableFault>
+    ensures { Asks S.Store tx.old.conn tx.new.conn result IsChecked }
+{
+    let numbers = driver_numbers(alloc, tx)?;
+    for number in &numbers {
+        let driver = *number;
+        let found = judge_driver(alloc, tx, driver)?;
+        if let Some(table) = found {
+            return Ok(Some(Unsound { driver, table }));
+        }
+    }
+    Ok(None)
+}
+
+/// Likewise, with the fault as a store reports it.
+fn checked_in<S: Alter>(
+    alloc: Global,
+    tx: &mut Transaction<'_, S>,
+) -> Result<Option<Unsound>, StoreFault>
+    ensures { Asks S.Store tx.old.conn tx.new.conn result IsChecked }
+{
+    check_in(alloc, tx).map_err(store_fault)
+}
+
+/// Likewise, outside a transaction.
+fn check_drivers<S: Alter>(
+    alloc: Global,
+    conn: &mut Connection<S>,
+) -> Result<Option<Unsound>, StoreFault>
+    requires { conn.old.in_transaction ≡ false }
+    ensures autocommit { conn.new.in_transaction ≡ false }
+    ensures checks { Checks S.Store conn.old conn.new result
+        (λ layout db found. IsReadable layout db → IsChecked layout db found) }
+{
+    // For the proof alone: nothing is pending, so what is seen is what was committed.
+    let _settled = conn.is_autocommit();
+    let mut tx = conn.transaction();
+    let found = checked_in(alloc, &mut tx);
+    tx.rollback();
+    match opening::ask(conn) {
+        Ok(()) => found,
+        Err(fault) => Err(store_fault(fault)),
+    }
+}
+
+/// Likewise, once `meta` and the table of schema 1 are known to be as they have to be: else it fails with S12.
+fn check_rows<S: Alter>(
+    alloc: Global,
+    conn: &mut Connection<S>,
+) -> Result<Option<Unsound>, StoreFault>
+    requires { conn.old.in_transaction ≡ false }
+    ensures autocommit { conn.new.in_transaction ≡ false }
+    ensures checks { Checks S.Store conn.old conn.new result
+        (λ layout db found. AreAllNumbered layout db → IsChecked layout db found) }
+{
+    ask_current(conn)?;
+    check_drivers(alloc, conn)
+}
+
+/// Reads all rows of an archive, and returns none if they represent a state. Else it returns the first driver, by number, whose rows are
+/// those of no state, and the first of that driver's tables for which this is so. Fails with S12 if `meta` isn't that of a state, or if
+/// `entries`, the table of schema 1, has rows. It takes the connection, and returns its store, which has the same rows, and in which a crash
+/// leaves what it would have left before the call. Only the store itself says that it is whole, and then no row number occurs twice, as the
+/// tables of a state require.
+pub fn check<S: Alter + Drop>(
+    alloc: Global,
+    mut conn: Connection<S>,
+) -> (Result<Option<Unsound>, StoreFault>, S)
+    requires { conn.in_transaction ≡ false }
+    ensures checked { IsClean (S.Store.view result.1) → (is : IsArchive (state S.Store conn).now)
+        → IfOk result.0 (IsChecked is.layout (state S.Store conn).now.trees) }
+    ensures same { IsClean (S.Store.view result.1) → IsArchive (state S.Store conn).now
+        → OnOk result.0 ((S.Store.view result.1).trees ≡ (state S.Store conn).now.trees) }
+    ensures crash { IsClean (S.Store.view result.1)
+        → (db : Trees) → S.Store.recovers result.1 db → (state S.Store conn).may_leave db }
+{
+    let found = check_rows(alloc, &mut conn);
+    // For the proof alone: nothing is pending, so what is seen is what was committed.
+    let _settled = conn.is_autocommit();
+    let store = conn.into_store();
+    if store.is_broken() {
+        return (Err(StoreFault::Store), store);
+    }
+    (found, store)
+}

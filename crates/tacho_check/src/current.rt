@@ -1,0 +1,126 @@
+//! Whether `meta` and the table of schema 1 are as a state's archive has them.
+
+ghost use Rattle.std.specs.Prelude.{◌≡◌, [], ◌∷◌, false, map, IsTrue, OnOk};
+ghost use Rattle.sqlite.specs.Held.{state};
+ghost use Rattle.tacho_tables.specs.Schema.{meta_rows as meta_tree, old_entry_tree};
+ghost use Rattle.tacho_tables.specs.Tables.{IsVersion, HasNoOldEntries};
+ghost use Rattle.tacho_check.specs.Checked.{Checks};
+ghost use Rattle.tacho_check.specs.Current.{Learns, AreFirst, has_old_table, meta_shown, old_entry_shown, current_shown};
+
+use crate::statement::read;
+use sqlite::{Alter, Connection, Row, Transaction};
+use tacho_reading::fault::store_fault;
+use tacho_state::StoreFault;
+use tacho_tables::{TableFault, opening};
+
+/// Reads id and version of `meta`. Two rows are enough to know whether there is one.
+fn meta_rows<S: Alter>(tx: &mut Transaction<'_, S>) -> Result<Vec<Row>, TableFault>
+    ensures { Learns S.Store tx.old.conn tx.new.conn result
+        (λ layout db found. AreFirst 2 (map meta_shown (db meta_tree)) found.items) }
+{
+    read(tx, "SELECT id, version FROM meta LIMIT 2", &[])
+}
+
+/// Asks whether a row has id 1 and version 2.
+fn ask_row(row: &Row) -> Result<(), TableFault>
+    ensures { OnOk result (row.now ≡ current_shown) }
+{
+    if row.column_count() != 2 {
+        return Err(TableFault::Store);
+    }
+    let id: i64 = row.get(0)?;
+    let version: i64 = row.get(1)?;
+    if id != 1 || version != 2 {
+        return Err(TableFault::Store);
+    }
+    Ok(())
+}
+
+/// Asks whether there is one row, with id 1 and version 2.
+fn ask_rows(rows: &[Row]) -> Result<(), TableFault>
+    ensures { OnOk result (rows.now ≡ current_shown ∷ []) }
+{
+    match rows {
+        [row] => ask_row(row),
+        _ => Err(TableFault::Store),
+    }
+}
+
+/// Asks whether `meta` has its one row, with version 2.
+fn ask_meta<S: Alter>(tx: &mut Transaction<'_, S>) -> Result<(), TableFault>
+    ensures { Learns S.Store tx.old.conn tx.new.conn result (λ layout db _. IsVersion 2 db) }
+{
+    let rows = meta_rows(tx)?;
+    ask_rows(&rows)
+}
+
+/// Reads the drivers of `entries`, the table of schema 1. One row is enough to know whether there are any.
+fn old_entry_rows<S: Alter>(tx: &mut Transaction<'_, S>) -> Result<Vec<Row>, TableFault>
+    requires { IsTrue (has_old_table (state S.Store tx.old.conn.now)) }
+    ensures { Learns S.Store tx.old.conn tx.new.conn result
+        (λ layout db found. AreFirst 1 (map old_entry_shown (db old_entry_tree)) found.items) }
+{
+    read(tx, "SELECT driver FROM entries LIMIT 1", &[])
+}
+
+/// Asks whether there are no rows.
+fn ask_no_rows(rows: &[Row]) -> Result<(), TableFault>
+    ensures { OnOk result (rows.now ≡ []) }
+{
+    match rows {
+        [] => Ok(()),
+        _ => Err(TableFault::Store),
+    }
+}
+
+/// Asks whether `entries`, the table of schema 1, has no rows.
+fn ask_old_entries<S: Alter>(tx: &mut Transaction<'_, S>) -> Result<(), TableFault>
+    requires { IsTrue (has_old_table (state S.Store tx.old.conn.now)) }
+    ensures { Learns S.Store tx.old.conn tx.new.conn result (λ layout db _. HasNoOldEntries layout db) }
+{
+    let rows = old_entry_rows(tx)?;
+    ask_no_rows(&rows)
+}
+
+/// Asks of an archive that was migrated whether `entries` and `meta` are as they have to be.
+fn ask_migrated<S: Alter>(tx: &mut Transaction<'_, S>) -> Result<(), TableFault>
+    requires { IsTrue (has_old_table (state S.Store tx.old.conn.now)) }
+    ensures { Learns S.Store tx.old.conn tx.new.conn result
+        (λ layout db _. IsVersion 2 db × HasNoOldEntries layout db) }
+{
+    ask_old_entries(tx)?;
+    ask_meta(tx)
+}
+
+/// Asks whether `meta` is as it has to be, and `entries` if there is such a table.
+fn ask_current_in<S: Alter>(tx: &mut Transaction<'_, S>, has_old: bool) -> Result<(), TableFault>
+    requires { has_old ≡ has_old_table (state S.Store tx.old.conn.now) }
+    ensures { Learns S.Store tx.old.conn tx.new.conn result
+        (λ layout db _. IsVersion 2 db × HasNoOldEntries layout db) }
+{
+    if has_old {
+        ask_migrated(tx)
+    } else {
+        ask_meta(tx)
+    }
+}
+
+/// Asks whether `meta` has its one row, with version 2, and whether `entries`, the table of schema 1 that a migrated archive keeps, has
+/// no rows. It changes nothing. Fails with S12 if not.
+pub fn ask_current<S: Alter>(conn: &mut Connection<S>) -> Result<(), StoreFault>
+    requires { conn.old.in_transaction ≡ false }
+    ensures autocommit { conn.new.in_transaction ≡ false }
+    ensures current { Checks S.Store conn.old conn.new result
+        (λ layout db _. IsVersion 2 db × HasNoOldEntries layout db) }
+{
+    let has_old = opening::has_old_archive(conn);
+    // For the proof alone: nothing is pending, so what is seen is what was committed.
+    let _settled = conn.is_autocommit();
+    let mut tx = conn.transaction();
+    let found = ask_current_in(&mut tx, has_old);
+    tx.rollback();
+    match opening::ask(conn) {
+        Ok(()) => found.map_err(store_fault),
+        Err(fault) => Err(store_fault(fault)),
+    }
+}
