@@ -38,8 +38,8 @@ MOST_JOBS = 4
 SECONDS = {
     "tacho_time": 105, "tacho_card": 103, "tacho_line": 98, "tacho_law": 32, "tacho_pass": 40, "tacho_driving": 42, "tacho_days": 51,
     "tacho_choice": 24, "tacho_rests": 75, "tacho_rules": 45, "tacho_stretches": 40, "tacho_state": 75, "tacho_sheet": 300,
-    "tacho_desk": 96, "tacho_tables": 187, "tacho_reading": 245, "tacho_store": 400, "tacho_message": 78, "tacho_http": 92,
-    "tacho_serve": 42, "tacho_cli": 125, "tacho": 340,
+    "tacho_desk": 96, "tacho_tables": 187, "tacho_reading": 245, "tacho_store": 400, "tacho_check": 180, "tacho_message": 78,
+    "tacho_http": 92, "tacho_serve": 42, "tacho_cli": 125, "tacho": 340,
 }
 
 # The seconds that are assumed for a crate without an entry in SECONDS.

@@ -16,7 +16,8 @@ WORDS = os.path.join(TOP, "crates", "tacho_cli", "src", "words.rt")
 # The exit statuses, as docs/FORMATS.md describes them.
 STATUSES = {
     0: "The command has done what it should.",
-    1: "The command has refused its input, and nothing has changed. The line that it prints begins with the code of the fault.",
+    1: "The command has refused its input, and nothing has changed. The line that it prints begins with the code of the fault. Of check: the "
+       "archive isn't sound.",
     2: "The arguments name no command, or ask for help. The usage goes to standard error, and nothing has changed.",
     3: "Memory, the archive's file or a device failed (M1, S12, X2). Whether the command has acted: see docs/OFFICE.md, "
        "'When something fails'.",

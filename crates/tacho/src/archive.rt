@@ -9,6 +9,7 @@ use sqlite::{Alter, Connection, Error, ErrorCode, File, FileStore};
 use std::alloc::AllocError;
 use std::fs::{self, Permissions};
 use std::os::unix::fs::{MetadataExt, OpenOptionsExt, PermissionsExt};
+use tacho_check::{Unsound, check, check_text};
 use tacho_cli::{DeskJob, perform_at_desk};
 use tacho_serve::{Place, ServeFault, serve};
 use tacho_state::StoreFault;
@@ -28,6 +29,8 @@ pub enum Work<'a> {
     Create,
     /// Migrates it to schema 2.
     Migrate,
+    /// Checks whether its tables represent a state.
+    Check,
     /// Does a task, with standard input and output.
     Task(DeskJob<'a>),
     /// Answers `count` connections on a port of 127.0.0.1, with the office's key and those of drivers.
@@ -97,6 +100,42 @@ fn migrate_archive<S: Alter + Drop>(conn: Connection<S>) -> (Ending, Connection<
     match Archive::migrate(conn) {
         Ok(archive) => (done("migrated\n"), archive.close()),
         Err(refusal) => (refused(refusal.0), refusal.1),
+    }
+}
+
+/// `tacho check`: reads all rows of an archive of schema 2, and prints whether they represent a state. A check leaves no connection to close:
+/// it changes nothing, so there is nothing to write back.
+fn check_archive<S: Alter + Drop>(
+    rt: &HostRuntime,
+    conn: Connection<S>,
+) -> (Ending, Option<Connection<S>>)
+    requires { conn.in_transaction ≡ false }
+{
+    match Archive::adopt(conn) {
+        Ok(archive) => {
+            let (found, _store) = check(rt.alloc(), archive.close());
+            (found_ending(rt, found), None)
+        }
+        Err(refusal) => (refused(refusal.0), Some(refusal.1)),
+    }
+}
+
+/// Prints what a check has found, and returns the ending.
+fn found_ending(rt: &HostRuntime, found: Result<Option<Unsound>, StoreFault>) -> Ending {
+    match found {
+        Ok(found) => tell_found(rt, found),
+        Err(fault) => refused(fault),
+    }
+}
+
+/// Prints what a check has found, and returns the ending: status 1 if rows are unsound.
+fn tell_found(rt: &HostRuntime, found: Option<Unsound>) -> Ending {
+    let Ok(text) = check_text(rt.alloc(), found) else {
+        return refused(StoreFault::Memory);
+    };
+    match print!(rt; "{}", text.as_str()) {
+        Ok(()) => with_status(u8::from(found.is_some())),
+        Err(_) => with_status(3),
     }
 }
 
@@ -217,22 +256,24 @@ fn serve_requests<S: Alter + Drop>(
     (ending, archive.close())
 }
 
-/// Does the work at the archive of a connection to the file with this path.
+/// Does the work at the archive of a connection to the file with this path. Returns the connection, unless the work was a check.
 fn at_connection<S: Alter + Drop>(
     rt: &HostRuntime,
     conn: Connection<S>,
     path: &str,
     work: Work<'_>,
-) -> (Ending, Connection<S>) {
+) -> (Ending, Option<Connection<S>>) {
     if !conn.is_autocommit() {
-        return (refused(StoreFault::Store), conn);
+        return (refused(StoreFault::Store), Some(conn));
     }
-    match work {
+    let (ending, conn) = match work {
+        Work::Check => return check_archive(rt, conn),
         Work::Create => create_archive(conn),
         Work::Migrate => migrate_archive(conn),
         Work::Task(job) => do_task(rt, conn, job),
         Work::Serve { key, port, count } => serve_requests(rt, conn, path, key, port, count),
-    }
+    };
+    (ending, Some(conn))
 }
 
 /// Makes an empty file with that mode if none exists. Gives that mode to an empty file that exists, and to a log beside a new or an empty
@@ -297,7 +338,9 @@ pub fn at_file(rt: &HostRuntime, path: &str, work: Work<'_>) -> u8 {
     match open_file(rt, path, work) {
         Ok(conn) => {
             let (ending, conn) = at_connection(rt, conn, path, work);
-            let _ = conn.close();
+            if let Some(conn) = conn {
+                let _ = conn.close();
+            }
             tell(rt, ending)
         }
         Err(fault) => tell(rt, refused(fault)),

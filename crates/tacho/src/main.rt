@@ -48,6 +48,7 @@ fn run(rt: &HostRuntime, job: Job<'_>) -> u8 {
         Job::Card { part } => tacho_cli::card(alloc, part, &mut reader, &mut writer),
         Job::Init { archive } => at_file(rt, archive, Work::Create),
         Job::Migrate { archive } => at_file(rt, archive, Work::Migrate),
+        Job::Check { archive } => at_file(rt, archive, Work::Check),
         Job::AtDesk(job) => at_file(rt, job.archive, Work::Task(job)),
         Job::Serve { key, .. } if !is_key(key) => no_key(rt),
         Job::Serve {

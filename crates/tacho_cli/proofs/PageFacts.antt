@@ -38,6 +38,9 @@ init = refl
 migrate : act_named (codes "migrate") subcommands ≡ Some act.Migrate
 migrate = refl
 
+check : act_named (codes "check") subcommands ≡ Some act.Check
+check = refl
+
 register : act_named (codes "register") subcommands ≡ Some (act.AtDesk want.Register)
 register = refl
 
@@ -122,7 +125,8 @@ abbrev given : Subcommand → Text
 given row = row.0 ++ flat_map (λ word. codes " " ++ word) row.1
 
 all_given : map given subcommands
-    ≡ codes "dump" ∷ codes "holder" ∷ codes "card part" ∷ codes "init archive" ∷ codes "migrate archive" ∷ codes "register archive"
+    ≡ codes "dump" ∷ codes "holder" ∷ codes "card part" ∷ codes "init archive" ∷ codes "migrate archive"
+    ∷ codes "check archive" ∷ codes "register archive"
     ∷ codes "import archive part" ∷ codes "enter archive driver" ∷ codes "withdraw archive driver number" ∷ codes "base archive driver date"
     ∷ codes "key archive driver"
     ∷ codes "spans archive driver month" ∷ codes "gaps archive driver month" ∷ codes "sheet archive driver month" ∷ codes "chart archive driver month"

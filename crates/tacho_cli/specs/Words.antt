@@ -48,6 +48,7 @@ subcommands =
     ∷ (codes "card", codes "part" ∷ [], act.Card)
     ∷ (codes "init", codes "archive" ∷ [], act.Init)
     ∷ (codes "migrate", codes "archive" ∷ [], act.Migrate)
+    ∷ (codes "check", codes "archive" ∷ [], act.Check)
     ∷ (codes "register", codes "archive" ∷ [], act.AtDesk want.Register)
     ∷ (codes "import", codes "archive" ∷ codes "part" ∷ [], act.AtDesk want.Import)
     ∷ (codes "enter", codes "archive" ∷ codes "driver" ∷ [], act.AtDesk want.Enter)
@@ -140,6 +141,7 @@ IsJobOf act.Holder rows j = j ≡ job.Holder
 IsJobOf act.Card rows (job.Card part) = IsWord rows (codes "part") part.now
 IsJobOf act.Init rows (job.Init archive) = IsWord rows (codes "archive") archive.now
 IsJobOf act.Migrate rows (job.Migrate archive) = IsWord rows (codes "archive") archive.now
+IsJobOf act.Check rows (job.Check archive) = IsWord rows (codes "archive") archive.now
 IsJobOf (act.AtDesk w) rows (job.AtDesk j) =
     (j.want ≡ w) × IsWord rows (codes "archive") j.archive.now × IsDriverText w rows j.driver.now × IsWordText (word_id w) rows j.word.now
 IsJobOf act.Serve rows (job.Serve archive key port count) =
@@ -167,6 +169,7 @@ archive_of job.Holder = None
 archive_of (job.Card part) = None
 archive_of (job.Init archive) = Some archive.now
 archive_of (job.Migrate archive) = Some archive.now
+archive_of (job.Check archive) = Some archive.now
 archive_of (job.AtDesk j) = Some j.archive.now
 archive_of (job.Serve archive key port count) = Some archive.now
 archive_of (job.Listen archive port count) = Some archive.now

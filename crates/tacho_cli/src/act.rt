@@ -16,6 +16,8 @@ pub(crate) enum Act {
     Init,
     /// Migrates an archive of schema 1.
     Migrate,
+    /// Checks an archive's tables.
+    Check,
     /// Does a task at an archive.
     AtDesk(Want),
     /// Answers requests, with the office's key as an argument.

@@ -31,6 +31,10 @@ pub enum Job<'a> {
     Migrate {
         archive: &'a str,
     },
+    /// Checks whether an archive's tables represent a state.
+    Check {
+        archive: &'a str,
+    },
     /// Does a task at an existing archive.
     AtDesk(DeskJob<'a>),
     /// Answers `count` connections on a port of 127.0.0.1, with the office's key and those of drivers.
@@ -69,6 +73,7 @@ impl<'a> Job<'a> {
             Job::Dump | Job::Holder | Job::Card { .. } | Job::Version => None,
             Job::Init { archive }
             | Job::Migrate { archive }
+            | Job::Check { archive }
             | Job::AtDesk(DeskJob { archive, .. })
             | Job::Serve { archive, .. }
             | Job::Listen { archive, .. } => Some(archive),

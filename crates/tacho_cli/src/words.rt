@@ -40,7 +40,7 @@ impl From<AllocError> for Usage {
 type Row = (&'static str, &'static str, &'static [&'static str], Act);
 
 /// The subcommands.
-static TABLE: [Row; 30] = [
+static TABLE: [Row; 31] = [
     (
         "dump",
         "Prints the spans of the value of an EF Driver_Activity_Data (0504), a line each: tacho dump < FILE",
@@ -70,6 +70,12 @@ static TABLE: [Row; 30] = [
         "Carries an archive of an older version over to this one, once; copy its file before",
         &["archive"],
         Act::Migrate,
+    ),
+    (
+        "check",
+        "Checks the rows of an archive: prints sound, or unsound with the first driver and table whose rows can't be right",
+        &["archive"],
+        Act::Check,
     ),
     (
         "register",
@@ -364,6 +370,10 @@ fn job_of<'a>(act: Act, words: &ArgMatches<'a>) -> Result<Job<'a>, Usage>
         },
         Act::Migrate => match text_of(words, "archive") {
             Some(archive) => Ok(Job::Migrate { archive }),
+            None => Err(Usage::Parser),
+        },
+        Act::Check => match text_of(words, "archive") {
+            Some(archive) => Ok(Job::Check { archive }),
             None => Err(Usage::Parser),
         },
         Act::AtDesk(want) => desk_of(want, words),

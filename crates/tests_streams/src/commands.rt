@@ -368,7 +368,7 @@ fn writers_fail_at_each_call(rt: HostRuntime) -> Result<(), Fail> {
 }
 
 /// Arguments, and the job that they name.
-static JOBS: [(&[&str], Job<'static>); 30] = [
+static JOBS: [(&[&str], Job<'static>); 31] = [
     (&["tacho", "dump"], Job::Dump),
     (&["tacho", "holder"], Job::Holder),
     (&["tacho", "card", "first"], Job::Card { part: "first" }),
@@ -377,6 +377,7 @@ static JOBS: [(&[&str], Job<'static>); 30] = [
         &["tacho", "migrate", "a.db"],
         Job::Migrate { archive: "a.db" },
     ),
+    (&["tacho", "check", "a.db"], Job::Check { archive: "a.db" }),
     (
         &["tacho", "register", "a.db"],
         Job::AtDesk(DeskJob {
@@ -636,7 +637,11 @@ fn words_name_jobs(rt: HostRuntime) -> Result<(), Fail> {
             has_archive
                 && !matches!(
                     job,
-                    Job::Init { .. } | Job::Migrate { .. } | Job::Serve { .. } | Job::Listen { .. }
+                    Job::Init { .. }
+                        | Job::Migrate { .. }
+                        | Job::Check { .. }
+                        | Job::Serve { .. }
+                        | Job::Listen { .. }
                 ),
         );
     }
@@ -670,6 +675,7 @@ Commands:
   card       Prints the spans of a whole card download file, a line each: tacho card PART < FILE, of which PART is both, first or second
   init       Makes an archive of no drivers in a file that isn't there
   migrate    Carries an archive of an older version over to this one, once; copy its file before
+  check      Checks the rows of an archive: prints sound, or unsound with the first driver and table whose rows can't be right
   register   Adds a driver: tacho register ARCHIVE < CSV with the head driver,holder,key,base,name
   import     Keeps a card download file of a driver: tacho import ARCHIVE PART < FILE, of which PART is both, first or second
   enter      Enters hours of a driver by hand: tacho enter ARCHIVE DRIVER < CSV with the head start,past,activity or start,past,activity,author,note
@@ -773,7 +779,7 @@ For more information, try '--help'.
 
 const NO_COMMAND: &str = "\
 error: 'tacho' requires a subcommand but one was not provided
-  [subcommands: dump, holder, card, init, migrate, register, import, enter, withdraw, base, key, spans, gaps, sheet, chart, breaches, why, owed, entries, file, files, drivers, stretches, debts, overview, incidents, form, serve, listen, version, help]
+  [subcommands: dump, holder, card, init, migrate, check, register, import, enter, withdraw, base, key, spans, gaps, sheet, chart, breaches, why, owed, entries, file, files, drivers, stretches, debts, overview, incidents, form, serve, listen, version, help]
 
 Usage: tacho <COMMAND>
 
