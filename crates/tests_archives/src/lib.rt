@@ -4,6 +4,8 @@
 #[cfg(test)]
 mod archives;
 #[cfg(test)]
+mod checked;
+#[cfg(test)]
 mod rows;
 #[cfg(test)]
 mod same;
