@@ -45,6 +45,8 @@ NO_COMMANDS = [
     ["migrate"],
     ["migrate", "PATH", "17"],
     ["migrate", "PATH", "--all"],
+    ["check"],
+    ["check", "PATH", "17"],
     ["register"],
     ["register", "PATH", "17"],
     ["import", "PATH"],

@@ -20,6 +20,7 @@ RUNS = [
     (["card", "both"], BOTH),
     (["card", "whole"], DAY),
     (["migrate", "/no/archive.db"], b""),
+    (["check", "/no/archive.db"], b""),
     ([], b""),
     (["help"], b""),
 ]

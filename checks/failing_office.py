@@ -14,7 +14,7 @@ from typing import Any
 
 from lib import counting, pools, programs
 from lib.failing import (
-    ANNA, CONTRADICT, ENTER, GIVEN_UP, NO_FILE, OF_SCHEMA_1, SIGNED, STORE_FAILED, WITH_DAY, WITH_HOURS, Office,
+    ANNA, CONTRADICT, ENTER, GIVEN_UP, NO_FILE, OF_SCHEMA_1, SIGNED, STORE_FAILED, UNSOUND, WITH_DAY, WITH_HOURS, Office,
 )
 from lib.office_rows import HOLDER, NOON, OTHER_DAY
 
@@ -49,6 +49,8 @@ CASES = {
     "entries": ([*WITH_HOURS, SIGNED], (["entries", "17"], b"")),
     "a file": (WITH_HOURS, (["file", "17", "1"], b"")),
     "drivers": ([*WITH_HOURS, OTHER], (["drivers"], b"")),
+    "a sound archive": ([*WITH_GAP, SIGNED, OTHER], (["check"], b"")),
+    "an unsound archive": (UNSOUND, (["check"], b"")),
     "stretches": (WITH_GAP, (["stretches", "17"], b"")),
     "debts": (WITH_GAP, (["debts", "17"], b"")),
     "an overview": ([*WITH_GAP, OTHER], (["overview", "2024-03"], b"")),
@@ -61,7 +63,7 @@ CASES = {
 NEW = {"a new archive": (NO_FILE, (["init"], b""))}
 
 STOPPED = [*NEW, "a first driver", "a first download", "signed hours", "a withdrawal", "another base", "another key"]
-STOPPED += ["a migration", "an old archive"]
+STOPPED += ["a migration", "an old archive", "a sound archive", "an unsound archive"]
 STOPS = {"the disk stopped at": None, "the disk failed": 1}
 
 

@@ -92,7 +92,7 @@ def of_files(program, name, files):
 
 # Command lines
 
-COUNTS = {"dump": 0, "holder": 0, "card": 1, "init": 1, "migrate": 1, "register": 1, "drivers": 1, "import": 2, "enter": 2}
+COUNTS = {"dump": 0, "holder": 0, "card": 1, "init": 1, "migrate": 1, "check": 1, "register": 1, "drivers": 1, "import": 2, "enter": 2}
 COUNTS |= {"breaches": 2, "owed": 2, "entries": 2, "withdraw": 3, "base": 3, "spans": 3, "gaps": 3, "sheet": 3, "chart": 3, "file": 3}
 COUNTS |= {"version": 0, "key": 2, "why": 3, "files": 2, "stretches": 2, "debts": 2, "overview": 2, "incidents": 2, "form": 2}
 USAGE = b"", 2

@@ -138,7 +138,7 @@ class KilledDesk(Desk):
     def reading(self):
         """A reading: of all drivers, or of one, or of nobody."""
         number, month = self.chance.choice([*self.office.archive.drivers, 1]), self.chance.choice(random_commands.MONTHS)
-        readings = ["drivers", f"breaches {number}", f"entries {number}", f"spans {number} {month}", f"file {number} 1"]
+        readings = ["drivers", "check", f"breaches {number}", f"entries {number}", f"spans {number} {month}", f"file {number} 1"]
         return self.chance.choice(readings).split(" ")
 
     def of_state(self, name):

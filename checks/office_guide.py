@@ -495,7 +495,8 @@ def backups(office):
     yield office.typed("umask 077\nmkdir -p backup", "")
     yield "who may read the backup", mode(office.path("backup/2024-04-01/archive.db")), 0o600
     yield "a change after it", office.told("withdraw", "17", "1"), "withdrawn 1\n"
-    yield office.typed("rm -f archive.db-wal", before)
+    yield office.typed("rm -f archive.db-wal", "sound\n")
+    yield "what is restored", office.told("entries", "17"), before
     for name, make in {
         ".backup": lambda one, path: one.backup(sqlite3.connect(path)),
         "VACUUM INTO": lambda one, path: one.execute("VACUUM INTO ?", (path,)),
@@ -514,12 +515,28 @@ def backups(office):
     yield "an archive after an UPDATE", (run.stdout, run.returncode), (b"S12 store failed\n", 3)
 
 
+def soundness(office):
+    """The check of the archive, and of one whose hours were changed."""
+    block = next(block for block in office.left if block.startswith("./tacho check"))
+    yield office.typed("./tacho check archive.db", "sound\n")
+    folder = office.folder
+    with elsewhere(office, "unsound"):
+        for name in ("archive.db", "archive.db-wal"):
+            shutil.copy(os.path.join(folder, name), office.path(name))
+        with contextlib.closing(sqlite3.connect(office.path("archive.db"))) as one, one:
+            one.execute("UPDATE held SET past = past - 1 WHERE driver = 17")
+        old_archive.put_sums(office.path("archive.db"))
+        yield "the check of an archive that isn't sound", office.type(block), (office.block("unsound 17 held"), 1)
+
+
 def updates(office):
     """An archive of schema 1, which is carried over."""
     with elsewhere(office, "old"):
         old_archive.make(office.path("archive.db"), old_archive.example_rows())
-        yield "an old archive", [office.told("entries", "17"), office.told("serve", KEY, str(office.port), "1")], 2 * ["S13 old archive\n"]
+        told = [office.told("entries", "17"), office.told("check"), office.told("serve", KEY, str(office.port), "1")]
+        yield "an old archive", told, 3 * ["S13 old archive\n"]
         yield office.typed("./tacho migrate archive.db", "migrated\n")
+        yield "whether it is sound", office.told("check"), "sound\n"
         yield "its entries then", office.told("entries", "18"), \
             '1 2024-03-05 06:00 2024-03-05 14:00 work kept "office" ""\n2 2024-03-05 14:00 2024-03-06 06:00 rest withdrawn "office" ""\n'
         yield "a migration once more", office.told("migrate"), "migrated\n"
@@ -707,7 +724,7 @@ def comparisons(program: str) -> counting.Comparisons:
     with tempfile.TemporaryDirectory() as folder:
         office = Office(program, folder)
         try:
-            for part in (front, beginnings, weeks, spreadsheets, months, inspections, readings, letters, keys, backups, updates, services):
+            for part in (front, beginnings, weeks, spreadsheets, months, inspections, readings, letters, keys, backups, soundness, updates, services):
                 yield from part(office)
         finally:
             office.end()

@@ -28,9 +28,10 @@ OPENING = (
     " come wherever the store is asked, and nowhere else.",
     "- A refusal leaves an archive's state and each of its rows as they were. A reader keeps what wasn't read, a"
     " writer has a beginning of the bytes, and of a text that was lent nothing is said after an error.",
-    "The scan of `tacho_rules`, its passes, `tacho_periods`, `tacho_plain`, `tacho_tables`, `tacho_reading` and"
-    " `tacho_shelf` have contracts too. They lie between these calls and the code, and are left out here. If a reader"
-    " doesn't report its bytes, what is said of its input holds for some input.",
+    "The scan of `tacho_rules`, its passes, `tacho_periods`, `tacho_plain`, `tacho_tables`, `tacho_reading`,"
+    " `tacho_shelf`, and the readings and judgements of `tacho_check` have contracts too. They lie between these calls"
+    " and the code, and are left out here. If a reader doesn't report its bytes, what is said of its input holds for"
+    " some input.",
 )
 
 # Crates, each with what it is about.
@@ -45,6 +46,7 @@ TITLES = {
     "tacho_sheet": "CSV that comes in, texts that go out",
     "tacho_desk": "what is done at an archive",
     "tacho_store": "the archive over SQLite",
+    "tacho_check": "whether the archive's tables represent a state",
     "tacho_message": "requests and replies as bytes",
     "tacho_http": "requests to an archive",
     "tacho_cli": "commands",
@@ -60,6 +62,7 @@ WHOLE = {
     "tacho_store::archive::Archive::create",
     "tacho_store::archive::Archive::migrate",
     "tacho_store::laws::a_crash_is_found_again",
+    "tacho_check::checking::check",
     "tacho_state::laws::a_run_of_calls",
 }
 

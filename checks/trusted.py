@@ -51,7 +51,7 @@ LAWYER = Order(
 DATABASE = Order(
     "A database person",
     "what do the tables represent, and what does a crash leave? docs/TABLES.md has the tables in prose",
-    ("tacho_store::", "tacho_state::keeper::", "tacho_state::laws::a_run_of_calls"),
+    ("tacho_store::", "tacho_check::", "tacho_state::keeper::", "tacho_state::laws::a_run_of_calls"),
     ("tacho_time", "tacho_card", "tacho_line", "tacho_law", "tacho_rules", "tacho_stretches"),
     (
         ("the tables, and their rows as values of types", "tacho_tables: Schema Rows Tables Making"),
@@ -62,6 +62,7 @@ DATABASE = Order(
          "tacho_state: Acts; tacho_reading: Kept; tacho_state: Runs"),
         ("how an archive is made, found again and carried over from schema 1; the tables after a command",
          "tacho_store: Opening Old After"),
+        ("what a check of the tables finds, and the line that is printed of it", "tacho_check: Check Checked Text"),
     ),
 )
 

@@ -290,8 +290,8 @@ class Texts(random_commands.Commands):
 
 # Command lines
 
-NAMES = ["dump", "holder", "card", "migrate", "register", "import", "enter", "withdraw", "base", "key", "spans", "gaps", "sheet", "chart"]
-NAMES += ["breaches", "why", "owed", "entries", "file", "files", "drivers", "stretches", "debts", "overview", "incidents", "form"]
+NAMES = ["dump", "holder", "card", "migrate", "check", "register", "import", "enter", "withdraw", "base", "key", "spans", "gaps", "sheet"]
+NAMES += ["chart", "breaches", "why", "owed", "entries", "file", "files", "drivers", "stretches", "debts", "overview", "incidents", "form"]
 NAMES += ["version", "help", "Sheet", ""]
 WORDS = [PATH, NO_TEXT, "", "17", "018", "0", "1000000", "both", "2024-03", "2024-03-04", "2100-01", "help", "-", "--", "-1", "-h"]
 WORDS += ["--help", "--all=1", "\u0661\u0667", 5_000 * "1", "no-archive"]

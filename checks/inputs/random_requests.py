@@ -136,7 +136,7 @@ class Requests(office_lines.Lines):
         return (words, given) if words[0] in PATHS else self.command()
 
     def reading(self) -> Command:
-        """A reading that has a path: that of all drivers and `migrate` are the command line's alone."""
+        """A reading that has a path: that of all drivers, `check` and `migrate` are the command line's alone."""
         words, given = super().reading()
         return (words, given) if words[0] in PATHS else self.reading()
 

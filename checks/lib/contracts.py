@@ -16,7 +16,7 @@ from lib.files import TOP
 # The crates by whose public contracts the product is known, each with those of its modules that count, or None for all.
 # The crates in between aren't here: what theirs say is used in proofs of these, and the prover has checked it.
 # Of tacho_rules the scan is in between too: what a report is, IsReport says, however it is made. So it is of the pass of
-# tacho_stretches.
+# tacho_stretches. Of tacho_check the readings and the judgement of one driver are in between.
 ENTRIES: dict[str, tuple[str, ...] | None] = {
     "tacho_time": None,
     "tacho_card": None,
@@ -28,13 +28,17 @@ ENTRIES: dict[str, tuple[str, ...] | None] = {
     "tacho_sheet": None,
     "tacho_desk": None,
     "tacho_store": None,
+    "tacho_check": ("checking", "laws", "table", "text"),
     "tacho_message": None,
     "tacho_http": None,
     "tacho_cli": None,
 }
 
-# Laws of these that are about what is in between: what each pass of a scan finds.
-BETWEEN = {f"tacho_rules::laws::{name}_as_defined" for name in ("breaks", "days", "week_sums", "week_rests")}
+# Laws of these that are about what is in between: what each pass of a scan finds, and how the rows of one driver are judged.
+BETWEEN = {
+    "tacho_check::laws::judged_rows",
+    *(f"tacho_rules::laws::{name}_as_defined" for name in ("breaks", "days", "week_sums", "week_rests")),
+}
 
 # What these show of other crates by `pub use`, and what is in between all the same: the scan's passes, and what reads rows for it.
 PASSED_ON = {"Breaks", "Days", "Found", "Pass", "Plain", "WeekRests", "WeekSums", "feed_rows"}
@@ -393,8 +397,9 @@ def declared_texts(declared: Declared) -> list[Text]:
 
 def entries_of(crate: str, modules: Sequence[str] | None) -> Iterator[Entry]:
     """The public items of a crate that have a contract: the name of each, and its texts."""
-    there: list[tuple[str, str | None]] = [(path[0], name) for path, name, _ in shown_names(crate) if path[0] in MODULES[crate]]
-    there += [(module, None) for module in shown_modules(crate)]
+    whole = shown_modules(crate)
+    single = [(path[0], name) for path, name, _ in shown_names(crate) if path[0] in MODULES[crate] and path[0] not in whole]
+    there: list[tuple[str, str | None]] = [*single, *((module, None) for module in whole)]
     for module, name in there:
         if modules is None or module in modules:
             yield from entries_in(crate, module, name)

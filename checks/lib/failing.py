@@ -23,9 +23,10 @@ CONTRADICT: Command = (["enter", "17"], OTHER_HOURS)
 WITH_DAY: list[Command] = [ANNA, (["import", "both"], DAY)]
 WITH_HOURS: list[Command] = [*WITH_DAY, ENTER]
 
-# In the place of these: the example of schema 1, and no file.
+# In the place of these: the example of schema 1, no file, and an archive with hours of which a row of `held` is wrong.
 OF_SCHEMA_1 = None
 NO_FILE: Sequence[Command] = ()
+UNSOUND: Sequence[Command] = [*WITH_HOURS]
 
 
 class Office:
@@ -44,6 +45,10 @@ class Office:
         elif commands is not NO_FILE:
             for command in [(["init"], b""), *commands]:
                 self.answer(command)
+        if commands is UNSOUND:
+            with contextlib.closing(sqlite3.connect(self.path)) as store, store:
+                store.execute("UPDATE held SET past = past + 1 WHERE start = (SELECT max(start) FROM held)")
+            old_archive.put_sums(self.path)
 
     def words(self, command: Command) -> list[str]:
         """The command line of a command."""

@@ -28,6 +28,7 @@ READINGS = [
     "file 17 1",
     "files 17",
     "drivers",
+    "check",
     "stretches 17",
     "debts 17",
     "overview 2024-03",

@@ -8,7 +8,7 @@ from slow.slow_office import Command
 
 LINES = 30
 FIRST_DAY = 10_957  # 2000-01-01, the first day of a month that is read
-READINGS = ["spans", "gaps", "sheet", "chart", "why", "breaches", "owed", "owed", "entries", "files", "file", "drivers", "migrate"]
+READINGS = ["spans", "gaps", "sheet", "chart", "why", "breaches", "owed", "owed", "entries", "files", "file", "drivers", "check", "migrate"]
 READINGS += ["stretches", "stretches", "debts", "overview", "incidents", "form"]
 BAD_DRIVERS = ["017", "0", "1000000", "", "+17", "1e3", "\u0661\u0667"]
 BAD_NUMBERS = ["0", "01", "1000001", "x", "99999999999999999999"]
@@ -29,6 +29,7 @@ BAD: dict[str, list[list[str]]] = {
     "why": [BAD_DRIVERS, BAD_MONTHS],
     "file": [BAD_DRIVERS, BAD_NUMBERS],
     "drivers": [],
+    "check": [],
     "migrate": [],
     "overview": [BAD_MONTHS],
     "incidents": [BAD_MONTHS],
@@ -87,7 +88,7 @@ class Lines(random_commands.Commands):
         """A reading of a driver, or a command that changes nothing of an archive of today."""
         word, number = self.chance.choice(READINGS), self.number()
         driver = self.drivers.get(number)
-        if word in ("drivers", "migrate"):
+        if word in ("drivers", "check", "migrate"):
             return [word], b""
         if word in ("overview", "incidents"):
             return [word, self.month(driver)], b""

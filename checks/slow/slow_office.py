@@ -3,7 +3,7 @@ input, and its status. Its texts are written a minute at a time. `docs/FORMATS.m
 
 `Office.answer` is given the arguments without the archive's path (`["spans", "17", "2024-03"]`) and the input's bytes. It takes one
 command more than the program, `own`: the import of a card file by the driver whose number it has. Its archive is one of schema 2,
-which `migrate` leaves as it is."""
+which `migrate` leaves as it is, and `check` finds sound."""
 import datetime
 import functools
 import hashlib
@@ -488,6 +488,7 @@ class Office:
             "incidents": lambda: self.incidents(*others),
             "form": lambda: self.form(*others),
             "migrate": lambda: "migrated\n",
+            "check": lambda: "sound\n",
         }
         try:
             told = commands[command]()
