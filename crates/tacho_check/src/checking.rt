@@ -1,9 +1,10 @@
 //! Whether the tables of an archive represent a state.
 
-ghost use Rattle.std.specs.Prelude.{◌≡◌, false, IfOk, OnOk};
+ghost use Rattle.std.specs.Prelude.{◌≡◌, false, IfOk, IfErr, OnOk};
 ghost use Rattle.sqlite.specs.Held.{state};
 ghost use Rattle.sqlite.specs.Tree.{Trees};
 ghost use Rattle.sqlite_trees.specs.View.{IsClean};
+ghost use Rattle.tacho_reading.specs.Kept.{HasGivenUp};
 ghost use Rattle.tacho_tables.specs.Tables.{IsArchive};
 ghost use Rattle.tacho_check.specs.Ask.{Asks};
 ghost use Rattle.tacho_check.specs.Check.{AreAllNumbered, IsReadable};
@@ -43,7 +44,8 @@ fn checked_in<S: Alter>(
     alloc: Global,
     tx: &mut Transaction<'_, S>,
 ) -> Result<Option<Unsound>, StoreFault>
-    ensures { Asks S.Store tx.old.conn tx.new.conn result IsChecked }
+    ensures asks { Asks S.Store tx.old.conn tx.new.conn result IsChecked }
+    ensures refused { IfErr result HasGivenUp }
 {
     check_in(alloc, tx).map_err(store_fault)
 }
@@ -55,6 +57,7 @@ fn check_drivers<S: Alter>(
 ) -> Result<Option<Unsound>, StoreFault>
     requires { conn.old.in_transaction ≡ false }
     ensures autocommit { conn.new.in_transaction ≡ false }
+    ensures refused { IfErr result HasGivenUp }
     ensures checks { Checks S.Store conn.old conn.new result
         (λ layout db found. IsReadable layout db → IsChecked layout db found) }
 {
@@ -76,6 +79,7 @@ fn check_rows<S: Alter>(
 ) -> Result<Option<Unsound>, StoreFault>
     requires { conn.old.in_transaction ≡ false }
     ensures autocommit { conn.new.in_transaction ≡ false }
+    ensures refused { IfErr result HasGivenUp }
     ensures checks { Checks S.Store conn.old conn.new result
         (λ layout db found. AreAllNumbered layout db → IsChecked layout db found) }
 {
@@ -93,6 +97,7 @@ pub fn check<S: Alter + Drop>(
     mut conn: Connection<S>,
 ) -> (Result<Option<Unsound>, StoreFault>, S)
     requires { conn.in_transaction ≡ false }
+    ensures refused { IfErr result.0 HasGivenUp }
     ensures checked { IsClean (S.Store.view result.1) → (is : IsArchive (state S.Store conn).now)
         → IfOk result.0 (IsChecked is.layout (state S.Store conn).now.trees) }
     ensures same { IsClean (S.Store.view result.1) → IsArchive (state S.Store conn).now

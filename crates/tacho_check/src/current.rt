@@ -1,7 +1,8 @@
 //! Whether `meta` and the table of schema 1 are as a state's archive has them.
 
-ghost use Rattle.std.specs.Prelude.{◌≡◌, [], ◌∷◌, false, map, IsTrue, OnOk};
+ghost use Rattle.std.specs.Prelude.{◌≡◌, [], ◌∷◌, false, map, IsTrue, IfErr, OnOk};
 ghost use Rattle.sqlite.specs.Held.{state};
+ghost use Rattle.tacho_reading.specs.Kept.{HasGivenUp};
 ghost use Rattle.tacho_tables.specs.Schema.{meta_rows as meta_tree, old_entry_tree};
 ghost use Rattle.tacho_tables.specs.Tables.{IsVersion, HasNoOldEntries};
 ghost use Rattle.tacho_check.specs.Checked.{Checks};
@@ -110,6 +111,7 @@ fn ask_current_in<S: Alter>(tx: &mut Transaction<'_, S>, has_old: bool) -> Resul
 pub fn ask_current<S: Alter>(conn: &mut Connection<S>) -> Result<(), StoreFault>
     requires { conn.old.in_transaction ≡ false }
     ensures autocommit { conn.new.in_transaction ≡ false }
+    ensures refused { IfErr result HasGivenUp }
     ensures current { Checks S.Store conn.old conn.new result
         (λ layout db _. IsVersion 2 db × HasNoOldEntries layout db) }
 {

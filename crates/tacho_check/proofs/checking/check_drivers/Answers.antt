@@ -13,5 +13,5 @@ returns-in-Ok-clause-checks g c = record {
   survives = search rules;
   found = λ clean is. if_so c.checked_in-found.result _ _ (λ ready.
       let before : HasCleanDisk (state g.S.Store c.checked_in-found.new.tx.conn.now) = search rules in
-      (rw c.transaction-tx.ensures.begun at c.checked_in-found.ensures.found before) is ready);
+      (rw c.transaction-tx.ensures.begun at c.checked_in-found.ensures.asks.found before) is ready);
 }
