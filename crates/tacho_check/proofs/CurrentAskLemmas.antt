@@ -19,7 +19,7 @@ use Rattle.tacho_tables.specs.Schema.{Layout, Made, Carried, archive_schema}
 use Rattle.tacho_check.specs.Current.{AreFirst, meta_text, old_entries_text, meta_shown, old_entry_shown}
 use Rattle.tacho_check.proofs.AskLemmas.{simple, none_given}
 
--- a query for so many rows of one table
+-- a query for at most `count` rows of one table
 abbrev pub first_rows : ℕ → ℕ → List Term → Query
 first_rows count t shown = record (simple t [] shown) { limit = lit (Int (pos count)) }
 
@@ -44,7 +44,7 @@ shows count t shown db params rows a =
       first = a.shown;
     }
 
--- under the schema the text shows these columns of so many rows of a table
+-- under the schema the text shows these columns of at most `count` rows of a table
 pub record IsReading (schema : Schema) (text : List ℕ) (count t : ℕ) (shown : List Term) (names : List (List ℕ)) : Type 0 where
   pub meant : command_of (understood schema text) ≡ Select (record { lets = []; body = first_rows count t shown }) names
   pub unlisted : reads_listing schema text ≡ false

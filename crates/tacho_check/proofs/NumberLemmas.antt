@@ -21,7 +21,8 @@ use Rattle.tacho_check.proofs.AskLemmas.{simple, passes, shows, none_given}
 
 -- under the schema the text shows the number of each row of `drivers`
 pub record IsNumbersReading (schema : Schema) : Type 0 where
-  pub meant : command_of (understood schema numbers_text) ≡ Select (record { lets = []; body = simple 1 [] (col 1 0 ∷ []) }) (codes "driver" ∷ [])
+  pub meant : command_of (understood schema numbers_text)
+      ≡ Select (record { lets = []; body = simple 1 [] (col 1 0 ∷ []) }) (codes "driver" ∷ [])
   pub unlisted : reads_listing schema numbers_text ≡ false
   pub plain : IsPlain (understood schema numbers_text)
 
