@@ -43,37 +43,37 @@ type Row = (&'static str, &'static str, &'static [&'static str], Act);
 static TABLE: [Row; 31] = [
     (
         "dump",
-        "Prints the spans of the value of an EF Driver_Activity_Data (0504), a line each: tacho dump < FILE",
+        "Prints the spans in the value of an EF Driver_Activity_Data (0504), one per line: tacho dump < FILE",
         &[],
         Act::Dump,
     ),
     (
         "holder",
-        "Prints the holder of a whole card download file in hexadecimal digits: tacho holder < FILE",
+        "Prints the holder in a card file, as 30 hexadecimal digits: tacho holder < FILE",
         &[],
         Act::Holder,
     ),
     (
         "card",
-        "Prints the spans of a whole card download file, a line each: tacho card PART < FILE, of which PART is both, first or second",
+        "Prints the spans in a card file, one per line: tacho card PART < FILE",
         &["part"],
         Act::Card,
     ),
     (
         "init",
-        "Makes an archive of no drivers in a file that isn't there",
+        "Creates an archive without drivers, in a new or empty file",
         &["archive"],
         Act::Init,
     ),
     (
         "migrate",
-        "Carries an archive of an older version over to this one, once; copy its file before",
+        "Converts an archive of an earlier schema to this program's; make a backup first",
         &["archive"],
         Act::Migrate,
     ),
     (
         "check",
-        "Checks the rows of an archive: prints sound, or unsound with the first driver and table whose rows can't be right",
+        "Checks all rows of an archive: prints sound, or unsound with the first driver and table whose rows can't be right",
         &["archive"],
         Act::Check,
     ),
@@ -85,61 +85,61 @@ static TABLE: [Row; 31] = [
     ),
     (
         "import",
-        "Keeps a card download file of a driver: tacho import ARCHIVE PART < FILE, of which PART is both, first or second",
+        "Adds a driver's card file: tacho import ARCHIVE PART < FILE",
         &["archive", "part"],
         Act::AtDesk(Want::Import),
     ),
     (
         "enter",
-        "Enters hours of a driver by hand: tacho enter ARCHIVE DRIVER < CSV with the head start,past,activity or start,past,activity,author,note",
+        "Enters a driver's hours by hand: tacho enter ARCHIVE DRIVER < CSV with the head start,past,activity or start,past,activity,author,note",
         &["archive", "driver"],
         Act::AtDesk(Want::Enter),
     ),
     (
         "withdraw",
-        "Withdraws an entry, which stays listed",
+        "Withdraws an entry, which stays listed and gives no more hours",
         &["archive", "driver", "number"],
         Act::AtDesk(Want::Withdraw),
     ),
     (
         "base",
-        "Sets the Monday from which a driver is examined: DATE is YYYY-MM-DD",
+        "Sets the Monday from which a driver's hours are examined",
         &["archive", "driver", "date"],
         Act::AtDesk(Want::Base),
     ),
     (
         "key",
-        "Sets the key of a driver: tacho key ARCHIVE DRIVER < FILE, of which the only line is the key",
+        "Sets a driver's key: tacho key ARCHIVE DRIVER < FILE, where FILE has the key as its only line",
         &["archive", "driver"],
         Act::AtDesk(Want::Key),
     ),
     (
         "spans",
-        "Prints what a driver holds in a month as CSV: MONTH is YYYY-MM",
+        "Prints the spans of a driver's month as CSV",
         &["archive", "driver", "month"],
         Act::AtDesk(Want::MonthReading(MonthReading::Spans)),
     ),
     (
         "gaps",
-        "Prints the minutes of a month that a driver doesn't hold",
+        "Prints the gaps in a driver's month, for which the archive has no hours",
         &["archive", "driver", "month"],
         Act::AtDesk(Want::MonthReading(MonthReading::Gaps)),
     ),
     (
         "sheet",
-        "Prints the sheet of a driver's month",
+        "Prints the sheet of a driver's month, with its totals and breaches",
         &["archive", "driver", "month"],
         Act::AtDesk(Want::MonthReading(MonthReading::Sheet)),
     ),
     (
         "chart",
-        "Draws a driver's month as SVG: a row for each day, with the breaches: tacho chart ARCHIVE DRIVER MONTH > month.svg",
+        "Draws a driver's month as SVG, with a row for each day, and the breaches: tacho chart ARCHIVE DRIVER MONTH > month.svg",
         &["archive", "driver", "month"],
         Act::AtDesk(Want::MonthReading(MonthReading::Chart)),
     ),
     (
         "breaches",
-        "Prints the breaches of the rules on driving and rest hours",
+        "Prints a driver's breaches up to the end of the first examination",
         &["archive", "driver"],
         Act::AtDesk(Want::Reading(Reading::Breaches)),
     ),
@@ -151,49 +151,49 @@ static TABLE: [Row; 31] = [
     ),
     (
         "owed",
-        "Prints the weekly rests that are owed",
+        "Prints the rest that is owed at the end of the first examination of a driver",
         &["archive", "driver"],
         Act::AtDesk(Want::Reading(Reading::Owed)),
     ),
     (
         "entries",
-        "Prints the hours that were entered by hand",
+        "Prints a driver's entries, also those withdrawn",
         &["archive", "driver"],
         Act::AtDesk(Want::Reading(Reading::Entries)),
     ),
     (
         "file",
-        "Prints a card download file that was kept",
+        "Prints a card file as it was imported",
         &["archive", "driver", "number"],
         Act::AtDesk(Want::File),
     ),
     (
         "files",
-        "Prints the card files of a driver, a line each: number, part, length in bytes, first minute, past, and SHA-256",
+        "Prints a driver's card files, one per line: number, part, length in bytes, first minute, past, and SHA-256",
         &["archive", "driver"],
         Act::AtDesk(Want::Reading(Reading::Files)),
     ),
     (
         "drivers",
-        "Prints the drivers, a line each: number, holder, base, how many card files and entries, and name",
+        "Prints the drivers, one per line: number, holder, base, how many card files and entries, and name",
         &["archive"],
         Act::AtDesk(Want::Drivers),
     ),
     (
         "stretches",
-        "Prints the breaches from the base on, and anew from the next held Monday after each end; and what isn't examined",
+        "Prints a driver's breaches by all examinations, and what isn't examined",
         &["archive", "driver"],
         Act::AtDesk(Want::Reading(Reading::Stretches)),
     ),
     (
         "debts",
-        "Prints the weekly rests that are owed, by the same stretches",
+        "Prints the rest that is owed at the end of each examination of a driver",
         &["archive", "driver"],
         Act::AtDesk(Want::Reading(Reading::Debts)),
     ),
     (
         "overview",
-        "Prints a month of all drivers as CSV: what each holds, how much of it is examined, and how many breaches of each rule",
+        "Prints a month of all drivers as CSV: what is held, how much of it is examined, and how many breaches there are of each rule",
         &["archive", "month"],
         Act::AtDesk(Want::MonthOfAll(MonthOfAll::Overview)),
     ),
@@ -205,19 +205,19 @@ static TABLE: [Row; 31] = [
     ),
     (
         "form",
-        "Prints CSV of the minutes that a driver doesn't hold, to be filled in and entered",
+        "Prints a driver's gaps as CSV, to fill in and enter",
         &["archive", "driver"],
         Act::AtDesk(Want::Reading(Reading::Form)),
     ),
     (
         "serve",
-        "Answers COUNT connections on PORT of 127.0.0.1, a request each: the office's by its KEY, drivers' by their own",
+        "Answers COUNT connections on PORT of 127.0.0.1, one request each: the office's with KEY, drivers' with their own keys",
         &["archive", "key", "port", "count"],
         Act::Serve,
     ),
     (
         "listen",
-        "Does as serve, with the office's key from its input: tacho listen ARCHIVE PORT COUNT < FILE, of which the only line is the key",
+        "Does the same as serve, with the office's key from its input: tacho listen ARCHIVE PORT COUNT < FILE, where FILE has the key as its only line",
         &["archive", "port", "count"],
         Act::Listen,
     ),
@@ -237,13 +237,13 @@ const LAST_COUNT: u32 = 1_000_000;
 /// The description of an argument for the user.
 fn meaning_of(id: &str) -> &'static str {
     if id == "archive" {
-        "The path of the archive's file"
+        "The path of the archive"
     } else if id == "driver" {
         "The driver's number, 1 to 999999"
     } else if id == "part" {
-        "Which of the file's blocks are read: first (of the first generation), second (of the second), or both"
+        "The blocks of the card file that are read: first (first generation), second (second generation), or both"
     } else if id == "number" {
-        "The number of the entry or the card file, as it was told when it came"
+        "The number of the entry or the card file, as it was printed when it was added"
     } else if id == "date" {
         "A Monday, as 2024-03-04"
     } else if id == "month" {
@@ -253,7 +253,7 @@ fn meaning_of(id: &str) -> &'static str {
     } else if id == "port" {
         "The port on 127.0.0.1, 1 to 65535"
     } else {
-        "How many connections are answered, 1 to 1000000"
+        "The number of connections to answer, 1 to 1000000"
     }
 }
 
@@ -288,7 +288,9 @@ fn command_of<'a>(alloc: Global, table: &[Row]) -> Result<Command<'a>, AllocErro
         (map (λ row. (row.0.now, map (λ s. s.now) row.2.now, row.3)) table.now)) }
 {
     let mut command = Command::new(alloc, "tacho")
-        .about("Keeps the driving and rest times that driver cards tell")
+        .about(
+            "Archives the hours that driver cards record, and checks them against the rules on driving and rest",
+        )
         .subcommand_required(true);
     for (name, about, ids, _) in table {
         let leaf = leaf(alloc, *name, *about, *ids)?;

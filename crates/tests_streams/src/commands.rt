@@ -665,41 +665,41 @@ fn ports_and_counts_are_numbers(rt: HostRuntime) -> Result<(), Fail> {
 }
 
 const HELP: &str = "\
-Keeps the driving and rest times that driver cards tell
+Archives the hours that driver cards record, and checks them against the rules on driving and rest
 
 Usage: tacho <COMMAND>
 
 Commands:
-  dump       Prints the spans of the value of an EF Driver_Activity_Data (0504), a line each: tacho dump < FILE
-  holder     Prints the holder of a whole card download file in hexadecimal digits: tacho holder < FILE
-  card       Prints the spans of a whole card download file, a line each: tacho card PART < FILE, of which PART is both, first or second
-  init       Makes an archive of no drivers in a file that isn't there
-  migrate    Carries an archive of an older version over to this one, once; copy its file before
-  check      Checks the rows of an archive: prints sound, or unsound with the first driver and table whose rows can't be right
+  dump       Prints the spans in the value of an EF Driver_Activity_Data (0504), one per line: tacho dump < FILE
+  holder     Prints the holder in a card file, as 30 hexadecimal digits: tacho holder < FILE
+  card       Prints the spans in a card file, one per line: tacho card PART < FILE
+  init       Creates an archive without drivers, in a new or empty file
+  migrate    Converts an archive of an earlier schema to this program's; make a backup first
+  check      Checks all rows of an archive: prints sound, or unsound with the first driver and table whose rows can't be right
   register   Adds a driver: tacho register ARCHIVE < CSV with the head driver,holder,key,base,name
-  import     Keeps a card download file of a driver: tacho import ARCHIVE PART < FILE, of which PART is both, first or second
-  enter      Enters hours of a driver by hand: tacho enter ARCHIVE DRIVER < CSV with the head start,past,activity or start,past,activity,author,note
-  withdraw   Withdraws an entry, which stays listed
-  base       Sets the Monday from which a driver is examined: DATE is YYYY-MM-DD
-  key        Sets the key of a driver: tacho key ARCHIVE DRIVER < FILE, of which the only line is the key
-  spans      Prints what a driver holds in a month as CSV: MONTH is YYYY-MM
-  gaps       Prints the minutes of a month that a driver doesn't hold
-  sheet      Prints the sheet of a driver's month
-  chart      Draws a driver's month as SVG: a row for each day, with the breaches: tacho chart ARCHIVE DRIVER MONTH > month.svg
-  breaches   Prints the breaches of the rules on driving and rest hours
+  import     Adds a driver's card file: tacho import ARCHIVE PART < FILE
+  enter      Enters a driver's hours by hand: tacho enter ARCHIVE DRIVER < CSV with the head start,past,activity or start,past,activity,author,note
+  withdraw   Withdraws an entry, which stays listed and gives no more hours
+  base       Sets the Monday from which a driver's hours are examined
+  key        Sets a driver's key: tacho key ARCHIVE DRIVER < FILE, where FILE has the key as its only line
+  spans      Prints the spans of a driver's month as CSV
+  gaps       Prints the gaps in a driver's month, for which the archive has no hours
+  sheet      Prints the sheet of a driver's month, with its totals and breaches
+  chart      Draws a driver's month as SVG, with a row for each day, and the breaches: tacho chart ARCHIVE DRIVER MONTH > month.svg
+  breaches   Prints a driver's breaches up to the end of the first examination
   why        Prints the breaches of a driver's month, each with the evidence for it
-  owed       Prints the weekly rests that are owed
-  entries    Prints the hours that were entered by hand
-  file       Prints a card download file that was kept
-  files      Prints the card files of a driver, a line each: number, part, length in bytes, first minute, past, and SHA-256
-  drivers    Prints the drivers, a line each: number, holder, base, how many card files and entries, and name
-  stretches  Prints the breaches from the base on, and anew from the next held Monday after each end; and what isn't examined
-  debts      Prints the weekly rests that are owed, by the same stretches
-  overview   Prints a month of all drivers as CSV: what each holds, how much of it is examined, and how many breaches of each rule
+  owed       Prints the rest that is owed at the end of the first examination of a driver
+  entries    Prints a driver's entries, also those withdrawn
+  file       Prints a card file as it was imported
+  files      Prints a driver's card files, one per line: number, part, length in bytes, first minute, past, and SHA-256
+  drivers    Prints the drivers, one per line: number, holder, base, how many card files and entries, and name
+  stretches  Prints a driver's breaches by all examinations, and what isn't examined
+  debts      Prints the rest that is owed at the end of each examination of a driver
+  overview   Prints a month of all drivers as CSV: what is held, how much of it is examined, and how many breaches there are of each rule
   incidents  Prints the breaches of a month of all drivers as CSV
-  form       Prints CSV of the minutes that a driver doesn't hold, to be filled in and entered
-  serve      Answers COUNT connections on PORT of 127.0.0.1, a request each: the office's by its KEY, drivers' by their own
-  listen     Does as serve, with the office's key from its input: tacho listen ARCHIVE PORT COUNT < FILE, of which the only line is the key
+  form       Prints a driver's gaps as CSV, to fill in and enter
+  serve      Answers COUNT connections on PORT of 127.0.0.1, one request each: the office's with KEY, drivers' with their own keys
+  listen     Does the same as serve, with the office's key from its input: tacho listen ARCHIVE PORT COUNT < FILE, where FILE has the key as its only line
   version    Prints the version of this program, the schema of the archives that it makes, and the kit that has proved it
   help       Print this message or the help of the given subcommand(s)
 
@@ -708,7 +708,7 @@ Options:
 ";
 
 const HELP_OF_DUMP: &str = "\
-Prints the spans of the value of an EF Driver_Activity_Data (0504), a line each: tacho dump < FILE
+Prints the spans in the value of an EF Driver_Activity_Data (0504), one per line: tacho dump < FILE
 
 Usage: tacho dump
 
@@ -717,7 +717,7 @@ Options:
 ";
 
 const HELP_OF_HOLDER: &str = "\
-Prints the holder of a whole card download file in hexadecimal digits: tacho holder < FILE
+Prints the holder in a card file, as 30 hexadecimal digits: tacho holder < FILE
 
 Usage: tacho holder
 
@@ -726,12 +726,12 @@ Options:
 ";
 
 const HELP_OF_BASE: &str = "\
-Sets the Monday from which a driver is examined: DATE is YYYY-MM-DD
+Sets the Monday from which a driver's hours are examined
 
 Usage: tacho base <archive> <driver> <date>
 
 Arguments:
-  <archive>  The path of the archive's file
+  <archive>  The path of the archive
   <driver>   The driver's number, 1 to 999999
   <date>     A Monday, as 2024-03-04
 
@@ -740,12 +740,12 @@ Options:
 ";
 
 const HELP_OF_OVERVIEW: &str = "\
-Prints a month of all drivers as CSV: what each holds, how much of it is examined, and how many breaches of each rule
+Prints a month of all drivers as CSV: what is held, how much of it is examined, and how many breaches there are of each rule
 
 Usage: tacho overview <archive> <month>
 
 Arguments:
-  <archive>  The path of the archive's file
+  <archive>  The path of the archive
   <month>    A month, as 2024-03
 
 Options:
