@@ -151,7 +151,7 @@ static TABLE: [Row; 31] = [
     ),
     (
         "owed",
-        "Prints the rest that is owed at the end of the first examination of a driver",
+        "Prints the rest that a driver owes or has paid, up to the end of the first examination",
         &["archive", "driver"],
         Act::AtDesk(Want::Reading(Reading::Owed)),
     ),
@@ -187,7 +187,7 @@ static TABLE: [Row; 31] = [
     ),
     (
         "debts",
-        "Prints the rest that is owed at the end of each examination of a driver",
+        "Prints the rest that a driver owes or has paid, by all examinations",
         &["archive", "driver"],
         Act::AtDesk(Want::Reading(Reading::Debts)),
     ),

@@ -688,13 +688,13 @@ Commands:
   chart      Draws a driver's month as SVG, with a row for each day, and the breaches: tacho chart ARCHIVE DRIVER MONTH > month.svg
   breaches   Prints a driver's breaches up to the end of the first examination
   why        Prints the breaches of a driver's month, each with the evidence for it
-  owed       Prints the rest that is owed at the end of the first examination of a driver
+  owed       Prints the rest that a driver owes or has paid, up to the end of the first examination
   entries    Prints a driver's entries, also those withdrawn
   file       Prints a card file as it was imported
   files      Prints a driver's card files, one per line: number, part, length in bytes, first minute, past, and SHA-256
   drivers    Prints the drivers, one per line: number, holder, base, how many card files and entries, and name
   stretches  Prints a driver's breaches by all examinations, and what isn't examined
-  debts      Prints the rest that is owed at the end of each examination of a driver
+  debts      Prints the rest that a driver owes or has paid, by all examinations
   overview   Prints a month of all drivers as CSV: what is held, how much of it is examined, and how many breaches there are of each rule
   incidents  Prints the breaches of a month of all drivers as CSV
   form       Prints a driver's gaps as CSV, to fill in and enter
