@@ -64,33 +64,15 @@ def de(minutes: int) -> str:
 ORDINALS = {number: f"{number}th" for number in [*range(4, 21), 111]} | {21: "21st", 22: "22nd", 23: "23rd", 101: "101st"}
 
 
-def english_short_rest(amount: int) -> str:
-    """B2 in English."""
-    start = "Your next rest of 9 h or more began too late"
-    if amount < 540:
-        return f"{start}. Only {en(540 - amount)} of it lay within 24 h of the start of your day: 9 h are needed, so {en(amount)} more."
-    late = "at" if amount == 540 else f"{en(amount - 540)} after"
-    return f"{start}: {late} the end of the 24 h that began with your day. 9 h of it have to lie within them."
-
-
-def german_short_rest(amount: int) -> str:
-    """B2 in German."""
-    start = "Ihre nächste Ruhezeit von 9 h oder mehr begann zu spät"
-    if amount < 540:
-        return f"{start}. Innerhalb von 24 h ab dem Beginn Ihres Tages lag davon nur so viel: {de(540 - amount)}. " \
-            f"Nötig sind 9 h, also {de(amount)} mehr."
-    late = "am Ende" if amount == 540 else f"{de(amount - 540)} nach dem Ende"
-    return f"{start}: {late} der 24 h, die mit Ihrem Tag begannen. 9 h davon müssen innerhalb dieser 24 h liegen."
-
-
 Sentences = Mapping[str, Callable[[int], str]]
 
 ENGLISH: Sentences = {
     "B1": lambda amount: f"You drove {en(270 + amount)} without a break of 45 minutes, or of 15 and then 30 minutes. "
                          "At most 4 h 30 are allowed.",
-    "B2": english_short_rest,
-    "B3": lambda amount: f"This was your {ORDINALS[3 + amount]} reduced daily rest (less than 11 h) since your last weekly rest. "
-                         "At most 3 are allowed between two weekly rests.",
+    "B2": lambda amount: f"Your next rest of 9 h or more began {en(amount)} too late. It has to begin within 15 h of the start of your day.",
+    "B3": lambda amount: f"This was your {ORDINALS[3 + amount]} reduced daily rest since your last weekly rest: less than 11 h of it lay "
+                         "within 24 h of the start of that day, and no rest of 3 h or more came before it in the day. At most 3 are "
+                         "allowed between two weekly rests.",
     "B4": lambda amount: f"You drove {en(600 + amount)} in one day, from the end of one rest of 9 h or more to the start of the next. "
                          "At most 10 h are allowed.",
     "B5": lambda amount: f"You drove {en(540 + amount)} in one day, and two or more earlier days of this week already had more than 9 h. "
@@ -100,16 +82,19 @@ ENGLISH: Sentences = {
     "B8": lambda amount: f"Your weekly rest of 24 h or more began {en(amount)} too late. "
                          "It has to begin within six days of the end of the last one.",
     "B9": lambda amount: "Two consecutive weeks lack a weekly rest. They need two of 24 h or more, and one of these has to have "
-                         "45 h or more. The rest that is missing may lie before them.",
-    "B10": lambda amount: f"A weekly rest was too short by {en(amount)}, and this wasn't made up for in one piece by the end of the "
+                         "45 h or more. The rest that is missing may lie before them. Around leave, or after two reduced weekly rests "
+                         "abroad, an officer may count otherwise.",
+    "B10": lambda amount: f"A weekly rest was reduced by {en(amount)}, and this wasn't made up in one piece by the end of the "
                           "third week after it.",
 }
 GERMAN: Sentences = {
     "B1": lambda amount: f"Sie sind {de(270 + amount)} ohne Fahrtunterbrechung von 45 Minuten, oder von 15 und danach 30 Minuten, gefahren. "
                          "Erlaubt sind höchstens 4 h 30.",
-    "B2": german_short_rest,
-    "B3": lambda amount: f"Dies war Ihre {3 + amount}. reduzierte tägliche Ruhezeit (weniger als 11 h) seit Ihrer letzten "
-                         "wöchentlichen Ruhezeit. Erlaubt sind höchstens 3 zwischen zwei wöchentlichen Ruhezeiten.",
+    "B2": lambda amount: f"Ihre nächste Ruhezeit von 9 h oder mehr begann {de(amount)} zu spät. Sie muss innerhalb von 15 h nach dem "
+                         "Beginn Ihres Tages beginnen.",
+    "B3": lambda amount: f"Dies war Ihre {3 + amount}. reduzierte tägliche Ruhezeit seit Ihrer letzten wöchentlichen Ruhezeit: Weniger "
+                         "als 11 h davon lagen innerhalb von 24 h nach dem Beginn jenes Tages, und an dem Tag lag vor ihr keine Ruhezeit "
+                         "von 3 h oder mehr. Erlaubt sind höchstens 3 zwischen zwei wöchentlichen Ruhezeiten.",
     "B4": lambda amount: "Sie sind an einem Tag, vom Ende einer Ruhezeit von 9 h oder mehr bis zum Beginn der nächsten, "
                          f"{de(600 + amount)} gefahren. Erlaubt sind höchstens 10 h.",
     "B5": lambda amount: f"Sie sind an einem Tag {de(540 + amount)} gefahren, und zwei oder mehr frühere Tage dieser Woche hatten "
@@ -119,8 +104,9 @@ GERMAN: Sentences = {
     "B8": lambda amount: f"Ihre wöchentliche Ruhezeit von 24 h oder mehr begann {de(amount)} zu spät. "
                          "Sie muss innerhalb von sechs Tagen nach dem Ende der letzten beginnen.",
     "B9": lambda amount: "In zwei aufeinanderfolgenden Wochen fehlt eine wöchentliche Ruhezeit. Nötig sind zwei von 24 h oder mehr, "
-                         "davon eine von 45 h oder mehr. Die fehlende Ruhezeit kann auch vor diesen Wochen liegen.",
-    "B10": lambda amount: f"Eine wöchentliche Ruhezeit war um {de(amount)} zu kurz, und das wurde nicht bis zum Ende der dritten "
+                         "davon eine von 45 h oder mehr. Die fehlende Ruhezeit kann auch vor diesen Wochen liegen. Um einen Urlaub "
+                         "herum oder nach zwei reduzierten wöchentlichen Ruhezeiten im Ausland zählt ein Kontrolleur vielleicht anders.",
+    "B10": lambda amount: f"Eine wöchentliche Ruhezeit war um {de(amount)} reduziert, und das wurde nicht bis zum Ende der dritten "
                           "Woche danach am Stück ausgeglichen.",
 }
 BREACHES = {"en": ENGLISH, "de": GERMAN}
@@ -132,6 +118,11 @@ AMOUNTS = {
     "B9": [0],
 }
 
+GERMAN_ARTICLES = {
+    "7": "7", "8(2)": "8 Absatz 2", "8(4)": "8 Absatz 4", "6(1)": "6 Absatz 1", "6(2)": "6 Absatz 2", "6(3)": "6 Absatz 3",
+    "8(6)": "8 Absatz 6", "8(6b)": "8 Absatz 6b",
+}
+
 DAYS = {"en": ["Mon", "Tue", "Wed", "Thu", "Fri", "Sat", "Sun"], "de": ["Mo", "Di", "Mi", "Do", "Fr", "Sa", "So"]}
 MONTHS = {
     "en": "January February March April May June July August September October November December".split(),
@@ -140,47 +131,53 @@ MONTHS = {
 OTHERS = {
     "en": {
         "moment": "{} UTC ({} local time)",
-        "details": "At {}, counted since {}. Regulation (EC) 561/2006, Article {} ({}).",
+        "details": "At {}, counted since {}. Regulation (EC) No 561/2006, Article {} ({}).",
         "before": "Nothing of this month from {} on is examined, so not one minute of this month.",
         "within": "Nothing from {} on is examined.",
         "after": "The examination goes past the end of this month. Nothing from {} on is examined.",
         "unknown": "The archive doesn't know what you did in the minute that begins then.",
         "crew": "In the minute that begins then the card has a second driver, and driving with a second driver isn't examined.",
         "to horizon": "Show {}, where the examination ends",
-        "no breach": "No breach was found in this month.",
-        "no breach up to": "No breach was found in this month before {}. What comes after wasn't examined.",
+        "no breach": "No breach was found in what was examined of this month. What lies before the Monday from which your office has you "
+                     "examined wasn't examined.",
+        "no breach up to": "No breach was found in what was examined of this month. What lies before the Monday from which your office has "
+                           "you examined wasn't examined, nor what comes from {} on.",
         "no breach unexamined": "Nothing of this month was examined, so none can be shown.",
         "breach": "1 breach", "breaches": "{} breaches",
         "others": "In other months: {}.",
         "from": "{} to {}",
         "unseen from": "from {} not examined",
-        "nothing owed": "No reduced weekly rest was found that has to be made up for.",
-        "open": "For the week from {week} you are still owed {amount} of rest, in one piece, before {by}.",
-        "late": "For the week from {week} you were owed {amount} of rest, in one piece, before {by}. You didn't get it in time.",
-        "paid": "For the week from {week} you were owed {amount} of rest. The rest that began at {at} has made up for it.",
+        "nothing owed": "No rest was found that still has to be made up.",
+        "open": "Rest to be made up for the week from {week}: {amount}, in one piece. It has to be taken before {by}.",
+        "late": "Rest to be made up for the week from {week}: {amount}, in one piece. It had to be taken before {by}, and wasn't taken by "
+                "then.",
+        "paid": "Rest to be made up for the week from {week}: {amount}. The rest that began at {at} has made it up.",
         "no gap": "All hours of this month are known.",
         "bad key": "No driver has this key. Check it, or ask your office.",
     },
     "de": {
         "moment": "{} UTC ({} Ortszeit)",
-        "details": "Am {}, gezählt seit {}. Verordnung (EG) 561/2006, Artikel {} ({}).",
+        "details": "Am {}, gezählt seit {}. Verordnung (EG) Nr. 561/2006, Artikel {} ({}).",
         "before": "Ab {} ist nichts geprüft, also keine Minute dieses Monats.",
         "within": "Ab {} ist nichts geprüft.",
         "after": "Die Prüfung reicht über das Ende dieses Monats hinaus. Ab {} ist nichts geprüft.",
         "unknown": "Das Archiv weiß nicht, was Sie in der Minute getan haben, die dann beginnt.",
         "crew": "In der Minute, die dann beginnt, hat die Karte einen zweiten Fahrer, und das Fahren zu zweit wird nicht geprüft.",
         "to horizon": "{} zeigen, wo die Prüfung endet",
-        "no breach": "In diesem Monat wurde kein Verstoß gefunden.",
-        "no breach up to": "In diesem Monat wurde vor {} kein Verstoß gefunden. Was danach kommt, wurde nicht geprüft.",
+        "no breach": "In dem, was von diesem Monat geprüft ist, wurde kein Verstoß gefunden. Was vor dem Montag liegt, ab dem Ihr Büro Sie "
+                     "prüfen lässt, ist nicht geprüft.",
+        "no breach up to": "In dem, was von diesem Monat geprüft ist, wurde kein Verstoß gefunden. Was vor dem Montag liegt, ab dem Ihr "
+                           "Büro Sie prüfen lässt, ist nicht geprüft, und ebenso, was ab {} kommt.",
         "no breach unexamined": "Von diesem Monat wurde nichts geprüft, also kann keiner gezeigt werden.",
         "breach": "1 Verstoß", "breaches": "{} Verstöße",
         "others": "In anderen Monaten: {}.",
         "from": "{} bis {}",
         "unseen from": "ab {} nicht geprüft",
-        "nothing owed": "Es wurde keine reduzierte wöchentliche Ruhezeit gefunden, die auszugleichen ist.",
-        "open": "Für die Woche ab {week} steht Ihnen noch Ruhezeit am Stück zu: {amount}, vor {by}.",
-        "late": "Für die Woche ab {week} stand Ihnen Ruhezeit am Stück zu: {amount}, vor {by}. Sie haben sie nicht rechtzeitig bekommen.",
-        "paid": "Für die Woche ab {week} stand Ihnen Ruhezeit zu: {amount}. Die Ruhezeit ab {at} hat das ausgeglichen.",
+        "nothing owed": "Es wurde keine Ruhezeit gefunden, die noch auszugleichen ist.",
+        "open": "Auszugleichende Ruhezeit für die Woche ab {week}: {amount} am Stück. Sie muss vor {by} ausgeglichen werden.",
+        "late": "Auszugleichende Ruhezeit für die Woche ab {week}: {amount} am Stück. Sie musste vor {by} ausgeglichen werden und wurde "
+                "es bis dahin nicht.",
+        "paid": "Auszugleichende Ruhezeit für die Woche ab {week}: {amount}. Die Ruhezeit ab {at} hat sie ausgeglichen.",
         "no gap": "Alle Stunden dieses Monats sind bekannt.",
         "bad key": "Diesen Schlüssel hat kein Fahrer. Prüfen Sie ihn, oder fragen Sie Ihr Büro.",
     },
@@ -248,7 +245,8 @@ class Month:
         said, found = OTHERS[language], []
         for line in self.breaches():
             kind, article, at, since, amount = re.fullmatch(r"(\S+) Art (\S+) at (.*) since (.*) amount (\d+)", line).groups()
-            details = said["details"].format(moment_text(language, at), moment_text(language, since), article, kind)
+            cited = GERMAN_ARTICLES[article] if language == "de" else article
+            details = said["details"].format(moment_text(language, at), moment_text(language, since), cited, kind)
             found.append([BREACHES[language][kind](int(amount)), details])
         if found:
             return found

@@ -667,7 +667,7 @@ function legend() {
 }
 
 /**
- * What is owed, and below it what has been made up for.
+ * The rest that is to be made up, and below it the rest that has been made up.
  * @param {object} replies
  * @returns {HTMLElement[]}
  */

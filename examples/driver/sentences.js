@@ -67,6 +67,15 @@ function germanBreaches(count) {
   return count === 1 ? "1 Verstoß" : `${count} Verstöße`;
 }
 
+/**
+ * An Article as it is cited in German: '8 Absatz 6b' for '8(6b)'.
+ * @param {string} article
+ * @returns {string}
+ */
+function germanArticle(article) {
+  return article.replace(/\((\w+)\)/, " Absatz $1");
+}
+
 const ENGLISH_DAYS = ["Sun", "Mon", "Tue", "Wed", "Thu", "Fri", "Sat"];
 const ENGLISH_MONTHS = ["January", "February", "March", "April", "May", "June", "July", "August", "September", "October", "November",
   "December"];
@@ -124,28 +133,22 @@ export const SENTENCES = {
 
     // Breaches
     breaches: "Breaches",
-    noBreach: "No breach was found in this month.",
-    noBreachUpTo: (horizon) => `No breach was found in this month before ${horizon}. What comes after wasn't examined.`,
+    noBreach: "No breach was found in what was examined of this month. What lies before the Monday from which your office has you examined wasn't examined.",
+    noBreachUpTo: (horizon) => `No breach was found in what was examined of this month. What lies before the Monday from which your office has you examined wasn't examined, nor what comes from ${horizon} on.`,
     noBreachUnexamined: "Nothing of this month was examined, so none can be shown.",
     others: (count) => `In other months: ${englishBreaches(count)}.`,
     otherMonth: (month, count) => `${month} (${count})`,
-    details: (at, since, article, kind) => `At ${at}, counted since ${since}. Regulation (EC) 561/2006, Article ${article} (${kind}).`,
+    details: (at, since, article, kind) => `At ${at}, counted since ${since}. Regulation (EC) No 561/2006, Article ${article} (${kind}).`,
     B1: (amount) => `You drove ${english(270 + amount)} without a break of 45 minutes, or of 15 and then 30 minutes. At most 4 h 30 are allowed.`,
-    B2: (amount) => {
-      if (amount < 540) {
-        return `Your next rest of 9 h or more began too late. Only ${english(540 - amount)} of it lay within 24 h of the start of your day: 9 h are needed, so ${english(amount)} more.`;
-      }
-      const late = amount > 540 ? `${english(amount - 540)} after` : "at";
-      return `Your next rest of 9 h or more began too late: ${late} the end of the 24 h that began with your day. 9 h of it have to lie within them.`;
-    },
-    B3: (amount) => `This was your ${ordinal(3 + amount)} reduced daily rest (less than 11 h) since your last weekly rest. At most 3 are allowed between two weekly rests.`,
+    B2: (amount) => `Your next rest of 9 h or more began ${english(amount)} too late. It has to begin within 15 h of the start of your day.`,
+    B3: (amount) => `This was your ${ordinal(3 + amount)} reduced daily rest since your last weekly rest: less than 11 h of it lay within 24 h of the start of that day, and no rest of 3 h or more came before it in the day. At most 3 are allowed between two weekly rests.`,
     B4: (amount) => `You drove ${english(600 + amount)} in one day, from the end of one rest of 9 h or more to the start of the next. At most 10 h are allowed.`,
     B5: (amount) => `You drove ${english(540 + amount)} in one day, and two or more earlier days of this week already had more than 9 h. At most two such days are allowed in a week.`,
     B6: (amount) => `You drove ${english(3360 + amount)} in one week. At most 56 h are allowed.`,
     B7: (amount) => `You drove ${english(5400 + amount)} in two consecutive weeks. At most 90 h are allowed.`,
     B8: (amount) => `Your weekly rest of 24 h or more began ${english(amount)} too late. It has to begin within six days of the end of the last one.`,
-    B9: () => "Two consecutive weeks lack a weekly rest. They need two of 24 h or more, and one of these has to have 45 h or more. The rest that is missing may lie before them.",
-    B10: (amount) => `A weekly rest was too short by ${english(amount)}, and this wasn't made up for in one piece by the end of the third week after it.`,
+    B9: () => "Two consecutive weeks lack a weekly rest. They need two of 24 h or more, and one of these has to have 45 h or more. The rest that is missing may lie before them. Around leave, or after two reduced weekly rests abroad, an officer may count otherwise.",
+    B10: (amount) => `A weekly rest was reduced by ${english(amount)}, and this wasn't made up in one piece by the end of the third week after it.`,
 
     // The chart
     chart: "Chart of the month",
@@ -163,13 +166,13 @@ export const SENTENCES = {
     from: (start, past) => `${start} to ${past}`,
     unseenFrom: (time) => `from ${time} not examined`,
 
-    // Owed rests
-    owed: "Rest that you are owed",
-    nothingOwed: "No reduced weekly rest was found that has to be made up for.",
-    owes: (week, amount, by) => `For the week from ${week} you are still owed ${english(amount)} of rest, in one piece, before ${by}.`,
-    owesLate: (week, amount, by) => `For the week from ${week} you were owed ${english(amount)} of rest, in one piece, before ${by}. You didn't get it in time.`,
-    owesPaid: (week, amount, at) => `For the week from ${week} you were owed ${english(amount)} of rest. The rest that began at ${at} has made up for it.`,
-    paid: (count) => `Made up for: ${count}`,
+    // Rest to be made up
+    owed: "Rest to be made up",
+    nothingOwed: "No rest was found that still has to be made up.",
+    owes: (week, amount, by) => `Rest to be made up for the week from ${week}: ${english(amount)}, in one piece. It has to be taken before ${by}.`,
+    owesLate: (week, amount, by) => `Rest to be made up for the week from ${week}: ${english(amount)}, in one piece. It had to be taken before ${by}, and wasn't taken by then.`,
+    owesPaid: (week, amount, at) => `Rest to be made up for the week from ${week}: ${english(amount)}. The rest that began at ${at} has made it up.`,
+    paid: (count) => `Made up: ${count}`,
 
     // Gaps
     gaps: "Hours that aren't known",
@@ -253,36 +256,30 @@ export const SENTENCES = {
 
     // Verstöße
     breaches: "Verstöße",
-    noBreach: "In diesem Monat wurde kein Verstoß gefunden.",
-    noBreachUpTo: (horizon) => `In diesem Monat wurde vor ${horizon} kein Verstoß gefunden. Was danach kommt, wurde nicht geprüft.`,
+    noBreach: "In dem, was von diesem Monat geprüft ist, wurde kein Verstoß gefunden. Was vor dem Montag liegt, ab dem Ihr Büro Sie prüfen lässt, ist nicht geprüft.",
+    noBreachUpTo: (horizon) => `In dem, was von diesem Monat geprüft ist, wurde kein Verstoß gefunden. Was vor dem Montag liegt, ab dem Ihr Büro Sie prüfen lässt, ist nicht geprüft, und ebenso, was ab ${horizon} kommt.`,
     noBreachUnexamined: "Von diesem Monat wurde nichts geprüft, also kann keiner gezeigt werden.",
     others: (count) => `In anderen Monaten: ${germanBreaches(count)}.`,
     otherMonth: (month, count) => `${month} (${count})`,
-    details: (at, since, article, kind) => `Am ${at}, gezählt seit ${since}. Verordnung (EG) 561/2006, Artikel ${article} (${kind}).`,
+    details: (at, since, article, kind) => `Am ${at}, gezählt seit ${since}. Verordnung (EG) Nr. 561/2006, Artikel ${germanArticle(article)} (${kind}).`,
     B1: (amount) => `Sie sind ${german(270 + amount)} ohne Fahrtunterbrechung von 45 Minuten, oder von 15 und danach 30 Minuten, gefahren. Erlaubt sind höchstens 4 h 30.`,
-    B2: (amount) => {
-      if (amount < 540) {
-        return `Ihre nächste Ruhezeit von 9 h oder mehr begann zu spät. Innerhalb von 24 h ab dem Beginn Ihres Tages lag davon nur so viel: ${german(540 - amount)}. Nötig sind 9 h, also ${german(amount)} mehr.`;
-      }
-      const late = amount > 540 ? `${german(amount - 540)} nach dem Ende` : "am Ende";
-      return `Ihre nächste Ruhezeit von 9 h oder mehr begann zu spät: ${late} der 24 h, die mit Ihrem Tag begannen. 9 h davon müssen innerhalb dieser 24 h liegen.`;
-    },
-    B3: (amount) => `Dies war Ihre ${3 + amount}. reduzierte tägliche Ruhezeit (weniger als 11 h) seit Ihrer letzten wöchentlichen Ruhezeit. Erlaubt sind höchstens 3 zwischen zwei wöchentlichen Ruhezeiten.`,
+    B2: (amount) => `Ihre nächste Ruhezeit von 9 h oder mehr begann ${german(amount)} zu spät. Sie muss innerhalb von 15 h nach dem Beginn Ihres Tages beginnen.`,
+    B3: (amount) => `Dies war Ihre ${3 + amount}. reduzierte tägliche Ruhezeit seit Ihrer letzten wöchentlichen Ruhezeit: Weniger als 11 h davon lagen innerhalb von 24 h nach dem Beginn jenes Tages, und an dem Tag lag vor ihr keine Ruhezeit von 3 h oder mehr. Erlaubt sind höchstens 3 zwischen zwei wöchentlichen Ruhezeiten.`,
     B4: (amount) => `Sie sind an einem Tag, vom Ende einer Ruhezeit von 9 h oder mehr bis zum Beginn der nächsten, ${german(600 + amount)} gefahren. Erlaubt sind höchstens 10 h.`,
     B5: (amount) => `Sie sind an einem Tag ${german(540 + amount)} gefahren, und zwei oder mehr frühere Tage dieser Woche hatten schon über 9 h. Erlaubt sind höchstens zwei solche Tage in einer Woche.`,
     B6: (amount) => `Sie sind in einer Woche ${german(3360 + amount)} gefahren. Erlaubt sind höchstens 56 h.`,
     B7: (amount) => `Sie sind in zwei aufeinanderfolgenden Wochen ${german(5400 + amount)} gefahren. Erlaubt sind höchstens 90 h.`,
     B8: (amount) => `Ihre wöchentliche Ruhezeit von 24 h oder mehr begann ${german(amount)} zu spät. Sie muss innerhalb von sechs Tagen nach dem Ende der letzten beginnen.`,
-    B9: () => "In zwei aufeinanderfolgenden Wochen fehlt eine wöchentliche Ruhezeit. Nötig sind zwei von 24 h oder mehr, davon eine von 45 h oder mehr. Die fehlende Ruhezeit kann auch vor diesen Wochen liegen.",
-    B10: (amount) => `Eine wöchentliche Ruhezeit war um ${german(amount)} zu kurz, und das wurde nicht bis zum Ende der dritten Woche danach am Stück ausgeglichen.`,
+    B9: () => "In zwei aufeinanderfolgenden Wochen fehlt eine wöchentliche Ruhezeit. Nötig sind zwei von 24 h oder mehr, davon eine von 45 h oder mehr. Die fehlende Ruhezeit kann auch vor diesen Wochen liegen. Um einen Urlaub herum oder nach zwei reduzierten wöchentlichen Ruhezeiten im Ausland zählt ein Kontrolleur vielleicht anders.",
+    B10: (amount) => `Eine wöchentliche Ruhezeit war um ${german(amount)} reduziert, und das wurde nicht bis zum Ende der dritten Woche danach am Stück ausgeglichen.`,
 
     // Das Diagramm
     chart: "Diagramm des Monats",
     hours: "UTC",
     sum: "gelenkt",
     rest: "Ruhe",
-    available: "Bereitschaft",
-    work: "andere Arbeit",
+    available: "Bereitschaftszeit",
+    work: "andere Arbeiten",
     drive: "Lenken",
     withCrew: (activity) => `${activity}, mit zweitem Fahrer`,
     crewBars: "mit zweitem Fahrer",
@@ -292,12 +289,12 @@ export const SENTENCES = {
     from: (start, past) => `${start} bis ${past}`,
     unseenFrom: (time) => `ab ${time} nicht geprüft`,
 
-    // Geschuldete Ruhezeiten
-    owed: "Ruhezeit, die Ihnen zusteht",
-    nothingOwed: "Es wurde keine reduzierte wöchentliche Ruhezeit gefunden, die auszugleichen ist.",
-    owes: (week, amount, by) => `Für die Woche ab ${week} steht Ihnen noch Ruhezeit am Stück zu: ${german(amount)}, vor ${by}.`,
-    owesLate: (week, amount, by) => `Für die Woche ab ${week} stand Ihnen Ruhezeit am Stück zu: ${german(amount)}, vor ${by}. Sie haben sie nicht rechtzeitig bekommen.`,
-    owesPaid: (week, amount, at) => `Für die Woche ab ${week} stand Ihnen Ruhezeit zu: ${german(amount)}. Die Ruhezeit ab ${at} hat das ausgeglichen.`,
+    // Auszugleichende Ruhezeiten
+    owed: "Auszugleichende Ruhezeit",
+    nothingOwed: "Es wurde keine Ruhezeit gefunden, die noch auszugleichen ist.",
+    owes: (week, amount, by) => `Auszugleichende Ruhezeit für die Woche ab ${week}: ${german(amount)} am Stück. Sie muss vor ${by} ausgeglichen werden.`,
+    owesLate: (week, amount, by) => `Auszugleichende Ruhezeit für die Woche ab ${week}: ${german(amount)} am Stück. Sie musste vor ${by} ausgeglichen werden und wurde es bis dahin nicht.`,
+    owesPaid: (week, amount, at) => `Auszugleichende Ruhezeit für die Woche ab ${week}: ${german(amount)}. Die Ruhezeit ab ${at} hat sie ausgeglichen.`,
     paid: (count) => `Ausgeglichen: ${count}`,
 
     // Lücken
@@ -307,7 +304,7 @@ export const SENTENCES = {
     // Die Tabelle der Tage
     days: "Jeder Tag in Zahlen",
     daysCaption: "Stunden und Minuten jedes Tages, UTC",
-    columns: ["Tag", "Ruhe", "Bereitschaft", "Andere Arbeit", "Lenken", "Mit zweitem Fahrer", "Nicht bekannt"],
+    columns: ["Tag", "Ruhe", "Bereitschaftszeit", "Andere Arbeiten", "Lenken", "Mit zweitem Fahrer", "Nicht bekannt"],
     total: "Monat",
 
     // Hochladen
