@@ -1,8 +1,10 @@
 #!/usr/bin/env python3
-"""Types what docs/OFFICE.md says is to be typed, block by block in a temporary folder, and compares what it prints, and what it says
-in prose, with what that page promises. A block is a run of indented lines. The blocks of the service have `systemctl` and its
-like pretended, and their folders below the temporary one: the service's command is the one of examples/tacho.service. What
-README.md shows of the tour is compared with examples/tour.expected, and the edit that it names with the code.
+"""Types what docs/OFFICE.md says is to be typed, block by block, and compares what it prints, and what the page says in prose, with what
+the page promises. A block is a run of indented lines. Nothing else is typed: one block leaves the folder and the umask to the next, and a
+block of CSV is saved under the name that the page gives it. Beside the page the office has card files alone. What the page says of other
+offices and of mistakes is tried on archives that are thrown away. The blocks of the service have `systemctl` and its like pretended, and
+their folders below a temporary one: the service's command is the one of examples/tacho.service. What README.md shows of the tour is
+compared with examples/tour.expected, and the edit that it names with the code.
 
 Argument: the program. The last line is 'N passed, M failed'."""
 import contextlib
@@ -118,17 +120,18 @@ def free_port():
 
 
 class Office:
-    """A folder in which the blocks of the page are typed."""
+    """A shell in which the blocks of the page are typed. It begins in the folder of the program."""
 
     def __init__(self, program, folder):
         self.program = os.path.abspath(program)
         self.root = folder
-        self.folder = os.path.join(folder, "office")
+        self.sources = os.path.join(folder, "mansulip")
+        self.folder = self.sources
+        self.umask = "022"
         self.port = free_port()
         self.left = blocks_of(page())
         os.makedirs(os.path.join(folder, "bin"))
-        os.makedirs(self.folder)
-        os.symlink(self.program, os.path.join(self.folder, "tacho"))
+        self.unpack()
         pretended = {"systemctl": SYSTEMCTL, "install": INSTALL, "runuser": RUNUSER, "useradd": "#!/bin/sh\n"}
         if not shutil.which("curl"):
             pretended["curl"] = CURL
@@ -137,8 +140,24 @@ class Office:
             with open(path, "w", encoding="utf-8") as file:
                 file.write(text)
             os.chmod(path, 0o755)
-        self.environment = dict(os.environ, PATH=f"{folder}/bin:{os.environ['PATH']}", ROOT=folder, PORT=str(self.port),
-                                REAL_INSTALL=shutil.which("install"))
+        home = os.path.join(folder, "home")
+        os.makedirs(home)
+        self.environment = dict(os.environ, PATH=f"{folder}/bin:{home}/.local/bin:{os.environ['PATH']}", HOME=home, ROOT=folder,
+                                PORT=str(self.port), REAL_INSTALL=shutil.which("install"))
+
+    def unpack(self):
+        """Makes the folder of the program, with what the page uses of it."""
+        os.makedirs(os.path.join(self.sources, "crates/tacho/out"))
+        shutil.copy(self.program, os.path.join(self.sources, "crates/tacho/out/tacho"))
+        os.symlink("crates/tacho/out/tacho", os.path.join(self.sources, "tacho"))
+        examples = os.path.join(self.sources, "examples")
+        shutil.copytree(EXAMPLES, examples)
+        for name in os.listdir(examples):
+            if name.endswith((".service", ".timer")):
+                with open(os.path.join(examples, name), "r+", encoding="utf-8") as file:
+                    text = self.here(file.read())
+                    file.seek(0)
+                    file.write(text)
 
     def path(self, name):
         return os.path.join(self.folder, name)
@@ -165,14 +184,29 @@ class Office:
         return text.replace("8017", str(self.port)).replace(f"{self.root}/dev", "/dev")
 
     def type(self, text):
-        """What is printed of commands of the page that are typed, and their status."""
-        return self.run(self.here(text))
+        """What is printed of commands of the page that are typed, and their status. Folder and umask are those that the commands before
+        have left."""
+        shell = os.path.join(self.root, "shell")
+        told = self.run(f"umask {self.umask}\n{self.here(text)}\n{{ pwd; umask; }} >{shell}")
+        if os.path.exists(shell):
+            with open(shell, encoding="utf-8") as file:
+                self.folder, self.umask = file.read().splitlines()
+            os.remove(shell)
+        return told
 
     def run(self, text):
         """What is printed of commands on this machine's folders, and their status."""
         run = subprocess.run(["sh", "-ec", text], cwd=self.folder, env=self.environment, stdin=subprocess.DEVNULL,
                              stdout=subprocess.PIPE, stderr=subprocess.DEVNULL)
         return run.stdout.decode(), run.returncode
+
+    def save(self, beginning):
+        """Saves a block under the name that is the last one before it on the page."""
+        block = self.block(beginning)
+        before = page().partition("    " + block.partition("\n")[0] + "\n    " + block.splitlines()[1])[0]
+        name = re.findall(r"`([\w-]+\.csv)`", before)[-1]
+        self.write(name, block)
+        return block
 
     def told(self, *words, given=b""):
         """What the program prints."""
@@ -194,6 +228,13 @@ class Office:
         """The comparison of a block that is typed."""
         block = self.block(beginning)
         return block.splitlines()[0], self.type(block), (printed, status)
+
+    def typed_there(self, beginning, printed):
+        """The same of a block that is typed in the folder of the program."""
+        folder, self.folder = self.folder, self.sources
+        told = self.typed(beginning, printed)
+        self.folder = folder
+        return told
 
 
 def mode(path):
@@ -221,31 +262,36 @@ def elsewhere(office, name):
     folder = office.folder
     office.folder = os.path.join(office.root, name)
     os.makedirs(office.folder)
-    os.symlink(office.program, office.path("tacho"))
     yield
     office.folder = folder
 
 
+@contextlib.contextmanager
+def another_archive(office, name):
+    """What is done meanwhile is done at another archive, which has Anna and no hours."""
+    with elsewhere(office, name):
+        told = office.told("init") + office.told("register", given=ANNA)
+        if told != "created\nregistered 17\n":
+            raise RuntimeError(told)
+        yield
+
+
 def beginnings(office):
-    """An archive, a driver, their first file, and their base."""
-    yield office.typed("umask 077\nmkdir archive", "created\n")
-    yield "who may read the folder and the file", [mode(office.path(name)) for name in ("archive", "archive/archive.db")], [0o700, 0o600]
-    office.folder = office.path("archive")
-    os.symlink(office.program, office.path("tacho"))
+    """The program in the shell, an archive, a driver, their first file, and their base."""
+    yield office.typed("mkdir -p ~/.local/bin", "")
+    yield "the program", office.type("tacho version")[0].startswith("tacho "), True
+    yield office.typed("umask 077\nmkdir ~/archive", "created\n")
+    yield "who may read the folder and the file", [mode(office.path(name)) for name in (".", "archive.db")], [0o700, 0o600]
     office.write("anna.ddd", DAY)
-    yield office.typed("./tacho holder < anna.ddd", f"{HOLDER}\n")
-    driver = office.block("driver,holder,key,base,name")
-    yield "the driver of the page", driver, ANNA.decode()
-    office.write("anna.csv", driver)
-    yield office.typed("./tacho register archive.db", "registered 17\n")
-    yield "a renewed card", office.told("register", given=ANNA.replace(b"17,", b"18,").replace(b"anna-key-1", b"anna-key-2")), \
-        "S3 holder taken\n"
-    yield office.typed("./tacho import archive.db both < anna.ddd", "added driver 17 number 1\n")
-    yield office.typed("./tacho gaps archive.db 17 2024-02", "2024-02-01 00:00 2024-03-01 00:00\n"
+    yield office.typed("tacho holder < anna.ddd", f"{HOLDER}\n")
+    driver = office.save("driver,holder,key,base,name\n17")
+    yield "the holder of the page", driver.splitlines()[1].split(",")[1], HOLDER
+    yield office.typed("tacho register archive.db < anna.csv", "registered 17\n")
+    yield office.typed("tacho import archive.db both < anna.ddd", "added driver 17 number 1\n")
+    yield office.typed("tacho gaps archive.db 17 2024-02", "2024-02-01 00:00 2024-03-01 00:00\n"
                        "2024-03-01 00:00 2024-03-04 00:00\n2024-03-04 17:00 2024-03-05 00:00\n2024-03-05 08:00 2024-04-01 00:00\n")
-    yield office.typed("./tacho base archive.db 17 2024-03-11", "base 2024-03-11\n")
-    yield "a base that isn't held", office.told("breaches", "17"), "EXAMINED TO 2024-03-11 00:00 unknown\n"
-    yield "the base of the first week", office.told("base", "17", "2024-03-04"), "base 2024-03-04\n"
+    yield "a base that isn't held", office.told("breaches", "17"), "EXAMINED TO 2024-01-01 00:00 unknown\n"
+    yield office.typed("tacho base archive.db 17 2024-03-04", "base 2024-03-04\n")
     yield "the list of drivers", office.told("drivers"), f"17 {HOLDER} 2024-03-04 1 0 Anna Berg\n"
 
 
@@ -268,38 +314,45 @@ def weeks(office):
     """A folder of files, the gaps, and what is entered into them."""
     for name, given in DOWNLOADS.items():
         office.write(f"downloads/{name}", given)
+    yield office.typed("tacho import archive.db both < anna.ddd", "repeated driver 17\n")
     loop = next(block for block in office.left if block.startswith(FOLDER_LOOP))
     yield office.typed(FOLDER_LOOP, *folder_text(list(DOWNLOADS)[:8]))
     yield "which files are kept", office.told("drivers") + office.told("file", "17", "2"), \
         f"17 {HOLDER} 2024-03-04 1 0 Anna Berg\nS10 unknown download\n"
     with elsewhere(office, "empty"):
         yield "a folder without files", office.type(loop), ("0 refused\n", 0)
-    yield office.typed("./tacho form archive.db 17 > form.csv\n", "")
-    yield "the form", office.read("form.csv"), "start,past,activity,author,note\n2024-03-04 17:00,2024-03-05 00:00,,,\n"
-    yield office.typed("./tacho overview archive.db 2024-03", "")
+    yield office.typed("tacho form archive.db 17 > form-17.csv\n", "")
+    yield "the form", office.read("form-17.csv"), "start,past,activity,author,note\n2024-03-04 17:00,2024-03-05 00:00,,,\n"
+    yield office.typed("tacho overview archive.db 2024-03", "")
     yield "the overview", office.read("overview-2024-03.csv"), office.told("overview", "2024-03")
     yield "a driver's row", office.read("overview-2024-03.csv").splitlines()[1], "17,Anna Berg,960,0,30,510,0,43140,1020,1" + 9 * ",0"
     yield "the incidents", office.read("incidents-2024-03.csv"), office.told("incidents", "2024-03")
-    yield office.typed("./tacho stretches archive.db 17\n", office.told("stretches", "17"))
     yield from crews(office)
+    yield from twins(office)
+    office.save("start,past,activity\n2024-03-09")
+    yield office.typed("tacho enter archive.db 17 < hours.csv", "entered 1 to 2\n")
+    office.save("start,past,activity,author,note\n2024-03-16")
+    listed = office.block('1 2024-03-09 00:00 2024-03-11 00:00 rest kept "office" ""\n2 2024-03-11')
+    yield office.typed("tacho enter archive.db 17 < signed.csv", f"entered 3 to 4\n{listed}")
     yield from forms(office)
-    twins = office.block('1 2024-03-09 00:00 2024-03-11 00:00 rest kept "office" ""\n2 2024-03-09')
+    corrected = office.save("start,past,activity,author,note\n2024-03-11 06:00")
+    yield "the corrected hours", len(corrected.splitlines()), 3
+    yield office.typed("tacho entries archive.db 17\ntacho withdraw", office.told("entries", "17") + "withdrawn 2\nentered 11 to 12\n")
+    yield "no gap is left by the correction", office.told("form", "17"), "start,past,activity,author,note\n"
+
+
+def twins(office):
+    """Hours that are entered twice."""
+    listed = office.block('1 2024-03-09 00:00 2024-03-11 00:00 rest kept "office" ""\n2 2024-03-09')
     free = "start,past,activity\n2024-03-09 00:00,2024-03-11 00:00,rest\n"
-    with undone(office):
+    with another_archive(office, "twins"):
         for number in (1, 2):
             yield f"twin {number}", office.told("enter", "17", given=free.encode()), f"entered {number} to {number}\n"
-        yield "the twins of the page", office.told("entries", "17"), twins
+        yield "the twins of the page", office.told("entries", "17"), listed
         work = free.replace("rest", "work").encode()
         yield "a twin withdrawn", office.told("withdraw", "17", "1") + office.told("enter", "17", given=work), \
             "withdrawn 1\nS6 contradiction at 2024-03-09 00:00\n"
         yield "both withdrawn", office.told("withdraw", "17", "2") + office.told("enter", "17", given=work), "withdrawn 2\nentered 3 to 3\n"
-    office.write("hours.csv", office.block("start,past,activity\n2024-03-09"))
-    yield office.typed("./tacho enter archive.db 17 < hours.csv", "entered 1 to 2\n")
-    office.write("signed.csv", office.block("start,past,activity,author,note"))
-    listed = office.block('1 2024-03-09 00:00 2024-03-11 00:00 rest kept "office" ""\n2 2024-03-11')
-    yield office.typed("./tacho enter archive.db 17 < signed.csv", f"entered 3 to 4\n{listed}")
-    office.write("corrected.csv", "start,past,activity\n2024-03-11 06:00,2024-03-11 13:00,work\n")
-    yield office.typed("./tacho entries archive.db 17\n./tacho withdraw", f"{listed}withdrawn 2\nentered 5 to 5\n")
 
 
 def crews(office):
@@ -319,19 +372,20 @@ def crews(office):
 
 
 def forms(office):
-    """The form for the gaps of some weeks, filled in and entered."""
-    held = b"start,past,activity\n2024-03-05 08:00,2024-03-29 16:00,rest\n2024-04-02 06:00,2024-04-26 15:00,rest\n"
-    with undone(office):
-        yield "what is held around the gaps", office.told("enter", "17", given=held), "entered 1 to 2\n"
-        yield "the form of the page", office.told("form", "17"), office.block("start,past,activity,author,note\n2024-03-04 17:00")
-        yield office.typed("./tacho form archive.db 17 > form.csv\nsed", "")
-        entered = "entered 3 to 4\n"
-        yield office.typed("./tacho enter archive.db 17 < hours.csv\n", entered)
-        told = office.told("form", "17") + office.told("breaches", "17").splitlines(keepends=True)[-1]
-        yield "no gap is left", told, "start,past,activity,author,note\nEXAMINED TO 2024-04-26 15:00 unknown\n"
-        for given, line in ((",,,", "E6 no such activity in row 2\n"), (",rest,,", "E10 bad author in row 2\n")):
-            form = f"start,past,activity,author,note\n2024-04-26 15:00,2024-04-27 00:00{given}\n".encode()
-            yield f"a row that ends in {given}", office.told("enter", "17", given=form), line
+    """The form for the gaps, filled in and entered."""
+    form = office.block("start,past,activity,author,note\n2024-03-04 17:00,2024-03-05 00:00,,,")
+    yield "the form of the page", office.told("form", "17"), form
+    yield office.typed("tacho form archive.db 17 > form-17.csv\nsed", "")
+    yield "the form with the author", office.read("filled-17.csv"), form.replace(",,,\n", ",,Eva Lund,\n")
+    yield "the form with the author alone", office.told("enter", "17", given=office.read("filled-17.csv").encode()), \
+        "E6 no such activity in row 2\n"
+    office.save("start,past,activity,author,note\n2024-03-04 17:00")
+    yield office.typed("tacho enter archive.db 17 < filled-17.csv", "entered 5 to 10\n")
+    told = office.told("form", "17") + office.told("breaches", "17").splitlines(keepends=True)[-1]
+    yield "no gap is left", told, "start,past,activity,author,note\nEXAMINED TO 2024-03-18 14:00 unknown\n"
+    for given, line in ((",,,", "E6 no such activity in row 2\n"), (",rest,,", "E10 bad author in row 2\n")):
+        row = f"start,past,activity,author,note\n2024-04-26 15:00,2024-04-27 00:00{given}\n".encode()
+        yield f"a row that ends in {given}", office.told("enter", "17", given=row), line
 
 
 # What the first column of the table of spreadsheets says, as rows after the head.
@@ -346,9 +400,9 @@ SPREADSHEETS = {
     "an empty row at the end, saved as `,,`": b"start,past,activity\n2024-03-11 06:00,2024-03-11 14:00,work\n,,\n",
     "a row with nothing but a blank": b"start,past,activity\n2024-03-11 06:00,2024-03-11 14:00,work\n \n",
     "`Rest`, or `rest` with a blank after it": b"start,past,activity\n2024-03-11 06:00,2024-03-11 14:00,Rest\n",
-    "a row whose author is empty": b"start,past,activity,author,note\n2024-03-11 06:00,2024-03-11 14:00,work,,ill\n",
-    "a note with a comma or a quote in it, saved as `\"ill, at home\"`":
-        b'start,past,activity,author,note\n2024-03-11 06:00,2024-03-11 14:00,rest,Eva Lund,"ill, at home"\n',
+    "a row whose author is empty": b"start,past,activity,author,note\n2024-03-11 06:00,2024-03-11 14:00,work,,course\n",
+    "a note with a comma or a quote in it, saved as `\"day off, roster of March\"`":
+        b'start,past,activity,author,note\n2024-03-11 06:00,2024-03-11 14:00,rest,Eva Lund,"day off, roster of March"\n',
     "Latin-1 ('ANSI', 'Western European'), with a letter beyond a to z in an author, as `Jörg`":
         "start,past,activity,author,note\n2024-03-11 06:00,2024-03-11 14:00,work,Jörg,\n".encode("latin-1"),
     "the same in a note, as `Besuch in Gävle`":
@@ -366,6 +420,12 @@ HARMLESS = {
 
 def spreadsheets(office):
     """Each row of the table of what spreadsheets do, and each of its commands, on a file that was saved so."""
+    with another_archive(office, "spreadsheets"):
+        yield from saved_hours(office)
+
+
+def saved_hours(office):
+    """The same, at an archive without hours."""
     table = page().partition("### Out of a spreadsheet")[2].partition("\n\n")[2].partition("\n\n")[0]
     rows = [row.split(" | ") for row in ROW.findall(table)][1:]
     yield "the rows of the table", [row[0] for row in rows], list(SPREADSHEETS)
@@ -373,41 +433,60 @@ def spreadsheets(office):
         yield f"a spreadsheet with {did}", office.told("enter", "17", given=SPREADSHEETS.get(did, b"")), line.strip("`") + "\n"
     commands = [(did, command) for did, _, remedy in rows for command in re.findall("`((?:sed|iconv) [^`]*)`", remedy)]
     yield "which rows have a command", [did.split(" ")[0] for did, _ in commands], ["semicolons", "UTF-16", "seconds,", "Latin-1"]
-    for number, (did, command) in enumerate(commands, 6):
+    for number, (did, command) in enumerate(commands, 1):
         office.write("saved.csv", SPREADSHEETS[did])
         office.run(command)
         yield f"{did}, mended", office.told("enter", "17", given=office.read("hours.csv").encode()), f"entered {number} to {number}\n"
     yield "an author in Latin-1, mended", '"Jörg"' in office.told("entries", "17"), True
-    for number, (name, given) in enumerate(HARMLESS.items(), 6 + len(commands)):
+    for number, (name, given) in enumerate(HARMLESS.items(), 1 + len(commands)):
         yield name, office.told("enter", "17", given=given), f"entered {number} to {number}\n"
     name = ANNA.replace(b"17,", b"16,").replace(b"Anna", "Jörg".encode("latin-1"))
     yield "a driver's name in Latin-1", office.told("register", given=name), "E9 bad value for name\n"
 
 
 def months(office):
-    """A month's sheet; the month of which nothing was examined; and hours that go to another driver."""
-    yield office.typed("./tacho sheet archive.db 17 2024-03", office.told("debts", "17"))
+    """A month's sheet and chart; a sheet of which nothing was examined; and the month asked for again."""
+    yield office.typed("tacho sheet archive.db 17 2024-03", office.told("debts", "17"))
     yield "the sheet", office.read("anna-2024-03.txt"), office.told("sheet", "17", "2024-03")
     yield "the spans", office.read("anna-2024-03.csv"), office.told("spans", "17", "2024-03")
-    yield office.typed("./tacho chart archive.db 17 2024-03", "")
+    yield office.typed("tacho chart archive.db 17 2024-03", "")
     yield "the chart", office.read("anna-2024-03.svg"), office.told("chart", "17", "2024-03")
     shown = office.block("2024-03-04 Mon")
-    yield "a driver of long days", office.told("register", given=driver_like_anna(19, b"carl-key-1", "9")), "registered 19\n"
+    with another_archive(office, "long days"):
+        yield from long_days(office, shown)
+    yield office.typed("tacho incidents archive.db 2024-03 > incidents-2024-03.new", "")
+
+
+def long_days(office, shown):
+    """The sheet of a driver who drove long days, of which nothing is examined."""
     day = [(0, 360, "rest"), (360, 1050, "drive"), (1050, 1440, "rest")]
     rows = [(1440 * number + start, 1440 * number + past, what) for number in range(19_787, 19_814) for start, past, what in day][:-1]
-    yield "his hours", office.told("enter", "19", given=hours_csv(rows)), f"entered 1 to {len(rows)}\n"
-    sheet = office.told("sheet", "19", "2024-03").splitlines(keepends=True)
+    yield "long days", office.told("enter", "17", given=hours_csv(rows)), f"entered 1 to {len(rows)}\n"
+    sheet = office.told("sheet", "17", "2024-03").splitlines(keepends=True)
     front, _, back = shown.partition("...\n")
     yield "the sheet of the page", "".join([*sheet[6:9], *sheet[-2:]]), front + back
-    yield "what is told of his days", [line for line in sheet if re.match("B[0-9]", line)], []
-    yield "a driver with a new holder", office.told("register", given=driver_like_anna(18, b"anna-key-2", "8")), "registered 18\n"
+    yield "what is told of long days", [line for line in sheet if re.match("B[0-9]", line)], []
+
+
+def changes(office):
+    """A renewed card; another holder, to whom hours go; and the archive of the next year."""
+    with undone(office):
+        yield "a renewed card", office.told("register", given=ANNA.replace(b"17,", b"18,").replace(b"anna-key-1", b"anna-key-2")), \
+            "S3 holder taken\n"
+    driver = office.save("driver,holder,key,base,name\n18")
+    holder = driver.splitlines()[1].split(",")[1]
+    yield "a card with another holder", \
+        office.told("import", "both", given=DAY.replace(bytes.fromhex(HOLDER), bytes.fromhex(holder))), "S4 unknown driver\n"
     count = len(office.told("spans", "17", "2024-03").splitlines()) - 1
-    yield office.typed("./tacho spans archive.db 17 2024-03 > march.csv", f"entered 1 to {count}\n")
-    yield "what he holds", office.told("spans", "18", "2024-03"), office.told("spans", "17", "2024-03")
-    yield office.typed("./tacho base archive.db 17 2024-03-11", "base 2024-03-11\n")
-    yield office.typed("./tacho file archive.db 17 1", "")
-    with open(office.path("anna-1.ddd"), "rb") as file:
-        yield "the file as it came", file.read(), DAY
+    yield office.typed("tacho register archive.db < anna-2.csv", f"registered 18\nentered 1 to {count}\n")
+    yield "what the new number holds", office.told("spans", "18", "2024-03"), office.told("spans", "17", "2024-03")
+    folder = office.folder
+    shutil.copytree(folder, os.path.join(office.root, "next year"))
+    office.folder = os.path.join(office.root, "next year")
+    yield office.typed("mkdir 2024", "created\nregistered 17\nbase 2024-11-04\n")
+    yield "the archive of the next year", office.told("drivers"), f"17 {HOLDER} 2024-11-04 0 0 Anna Berg\n"
+    yield "what is kept of the old year", sorted(os.listdir(office.path("2024"))), ["archive.db", "archive.db-wal", "downloads"]
+    office.folder = folder
 
 
 def later(file, days):
@@ -419,10 +498,16 @@ def later(file, days):
 
 def inspections(office):
     """What is written for an officer: of the card files those that cover a minute of March."""
+    with undone(office):
+        yield from inspection(office)
+
+
+def inspection(office):
+    """The same, with a card file of June beside those of March."""
     number = len(office.told("files", "17").splitlines()) + 1
     yield "a card file of June", office.told("import", "both", given=later(DAY, 91)), f"added driver 17 number {number}\n"
     listed = office.told("files", "17")
-    yield office.typed("./tacho files archive.db 17 > files.txt", "")
+    yield office.typed("tacho files archive.db 17 > files.txt", "")
     yield "the list of card files", office.read("files.txt"), listed
     for name, command in [("entries.txt", "entries"), ("stretches.txt", "stretches")]:
         yield name, office.read(name), office.told(command, "17")
@@ -453,15 +538,8 @@ LEAVE = [
 
 
 def letters(office):
-    """The evidence for the breaches of a month; and that of the page, of a driver who has done what the letter says."""
-    yield office.typed("./tacho why archive.db 17 2024-03", office.told("why", "17", "2024-03"))
-    shown = office.block("B1 Art 7 at 2024-03-04 13:00")
-    hours = [(4, 8, 8.5, "work"), (4, 8.5, 17, "drive")]
-    yield "the driver of the letter", office.told("register", given=driver_like_anna(24, b"gina-key-1", "4")), "registered 24\n"
-    rows = [(19_786 * 1440, 19_786 * 1440 + 480, "rest")]
-    rows += [(19_786 * 1440 + round(60 * start), 19_786 * 1440 + round(60 * past), what) for _, start, past, what in hours]
-    yield "their hours", office.told("enter", "24", given=hours_csv(rows)), "entered 1 to 3\n"
-    yield "the evidence of the page", office.told("why", "24", "2024-03"), shown
+    """The evidence for the breach that the letter is about."""
+    yield office.typed("tacho why archive.db 17 2024-03", office.block("B1 Art 7 at 2024-03-04 13:00"))
 
 
 def report_of(office, number, key, digit, done, last):
@@ -481,6 +559,12 @@ def report_of(office, number, key, digit, done, last):
 
 def readings(office):
     """Lines that an officer may not write: of a rest that is a few minutes short, and around leave."""
+    with another_archive(office, "readings"):
+        yield from read_otherwise(office)
+
+
+def read_otherwise(office):
+    """The same, at an archive without hours."""
     told = yield from report_of(office, 20, b"dora-key-1", "7", SHORT_REST, 6)
     yield "a rest of 8 hours 50", "".join(told), office.block("B2 Art 8(2) at 2024-03-04 21:00")
     told = yield from report_of(office, 21, b"emil-key-1", "6", LEAVE, 41)
@@ -517,8 +601,8 @@ def backups(office):
 
 def soundness(office):
     """The check of the archive, and of one whose hours were changed."""
-    block = next(block for block in office.left if block.startswith("./tacho check"))
-    yield office.typed("./tacho check archive.db", "sound\n")
+    block = next(block for block in office.left if block.startswith("tacho check"))
+    yield office.typed("tacho check archive.db", "sound\n")
     folder = office.folder
     with elsewhere(office, "unsound"):
         for name in ("archive.db", "archive.db-wal"):
@@ -535,7 +619,7 @@ def updates(office):
         old_archive.make(office.path("archive.db"), old_archive.example_rows())
         told = [office.told("entries", "17"), office.told("check"), office.told("serve", KEY, str(office.port), "1")]
         yield "an old archive", told, 3 * ["S13 old archive\n"]
-        yield office.typed("./tacho migrate archive.db", "migrated\n")
+        yield office.typed("tacho migrate archive.db", "migrated\n")
         yield "whether it is sound", office.told("check"), "sound\n"
         yield "its entries then", office.told("entries", "18"), \
             '1 2024-03-05 06:00 2024-03-05 14:00 work kept "office" ""\n2 2024-03-05 14:00 2024-03-06 06:00 rest withdrawn "office" ""\n'
@@ -563,20 +647,14 @@ def keys(office):
 def services(office):
     """The service, by its unit: made, asked, backed up, and restored."""
     root = office.root
-    os.makedirs(office.path("crates/tacho/out"))
-    shutil.copy(office.program, office.path("crates/tacho/out/tacho"))
-    shutil.copytree(EXAMPLES, office.path("examples"))
-    for name in os.listdir(office.path("examples")):
-        if name.endswith((".service", ".timer")):
-            office.write(f"examples/{name}", office.here(office.read(f"examples/{name}")))
-    yield office.typed("useradd", "created\n")
-    yield office.typed("install -m 600 -o tacho -g tacho archive.db", "")
+    yield office.typed_there("useradd", "created\n")
+    yield office.typed("install -m 600 -o tacho -g tacho archive.db archive.db-wal", "")
     yield office.typed("install -d -m 700 /etc/tacho", "")
     key = os.path.join(root, "etc/tacho/key")
     with open(key, encoding="utf-8") as file:
         text = file.read()
     yield "the office's key", (re.fullmatch("[a-zA-Z0-9]{32}\n", text) is not None, mode(key)), (True, 0o600)
-    yield office.typed("install -m 644 examples/tacho.service", "")
+    yield office.typed_there("install -m 644 examples/tacho.service", "")
     sign = next(block for block in office.left if block.startswith("curl -s -o /dev/null"))
     yield office.typed("curl -s -o /dev/null", "403\n")
     yield "a command while it serves", office.type("/usr/local/bin/tacho entries /var/lib/tacho/archive.db 17"), ("S12 store failed\n", 3)
@@ -590,19 +668,18 @@ def services(office):
     yield "the same with no refusal", office.type(loop), folder_text(names)
     asked = "curl -sS -H @office.head http://127.0.0.1:8017/drivers/17/entries"
     before = office.type(asked)
-    shutil.rmtree(office.path("backup"))
     yield office.typed("umask 077\nsystemctl stop tacho", "")
     yield "a change after the copy", office.type(f"{asked[:-len('entries')]}withdraw/1 -X POST"), ("withdrawn 1\n", 0)
     yield office.typed("systemctl stop tacho\nrm -f", "")
     yield "what is served after the restore", office.type(asked), before
     yield from updated(office)
-    yield office.typed("install -m 644 examples/tacho-backup.service", "")
+    yield office.typed_there("install -m 644 examples/tacho-backup.service", "")
     copies = unit_commands(office, "tacho-backup.service")
     yield "the commands of the backup's unit", office.run("\n".join(copies)), ("", 0)
     made = os.listdir(os.path.join(root, "var/backups/tacho"))
     copied = [sorted(os.listdir(os.path.join(root, "var/backups/tacho", name))) for name in made]
     yield "what it has copied", copied, [["archive.db", "archive.db-wal"]]
-    yield office.typed("install -d -m 755 /usr/local/share/tacho/driver", "")
+    yield office.typed_there("install -d -m 755 /usr/local/share/tacho/driver", "")
     page = os.path.join(root, "usr/local/share/tacho/driver")
     installed = {name: (read(os.path.join(page, name)), mode(os.path.join(page, name))) for name in os.listdir(page)}
     own = os.path.join(EXAMPLES, "driver")
@@ -626,8 +703,9 @@ def updated(office):
     yield "a service at an old archive", office.type("systemctl start tacho"), ("", 0)
     with open(os.path.join(office.root, "journal"), encoding="utf-8") as file:
         yield "what it says", file.read(), "S13 old archive\n"
-    yield office.typed("umask 077\nsystemctl stop tacho\nmkdir -p backup/before-the-update", "migrated\n")
-    yield "what is kept from before", sorted(os.listdir(office.path("backup/before-the-update"))), ["archive.db", "archive.db-wal", "tacho"]
+    yield office.typed_there("umask 077\nsystemctl stop tacho\nmkdir -p backup/before-the-update", "migrated\n")
+    kept_before = os.path.join(office.sources, "backup/before-the-update")
+    yield "what is kept from before", sorted(os.listdir(kept_before)), ["archive.db", "archive.db-wal", "tacho"]
     told, status = office.type("curl -sS -H @office.head http://127.0.0.1:8017/drivers/17/entries")
     yield "what is served after the update", (told.splitlines()[:1], status), \
         (['1 2024-03-09 00:00 2024-03-11 00:00 rest withdrawn "office" ""'], 0)
@@ -677,7 +755,8 @@ def by_proxy(office: Office, address: str, name: str, taken: bytes) -> counting.
 
 def unit_commands(office, name):
     """The commands of a unit in order, as systemd reads them: lines are joined, and `%%` and `$$` are one character."""
-    text = office.read(f"examples/{name}").replace("\\\n", " ").replace("%%", "%").replace("$$", "$")
+    with open(os.path.join(office.sources, "examples", name), encoding="utf-8") as file:
+        text = file.read().replace("\\\n", " ").replace("%%", "%").replace("$$", "$")
     commands = re.findall(r"^Exec(?:Start|StopPost)=-?(.*)$", text, re.MULTILINE)
     return [command.replace("/usr/bin/systemctl", "systemctl").replace("--no-block ", "") for command in commands]
 
@@ -686,12 +765,12 @@ def served_by_hand(office):
     """`serve` and `listen` as they are typed."""
     office.write("office.key", f"{KEY}\n")
     ask = ["curl", "-s", "-H", f"x-key: {KEY}", f"http://127.0.0.1:{office.port}/drivers/17/owed"]
-    for beginning in ("./tacho serve archive.db KEY", "./tacho listen archive.db"):
+    for beginning in ("tacho serve archive.db KEY", "tacho listen archive.db"):
         block = office.block(beginning)
         text = re.sub(r" 1000\b", " 2", office.here(block).replace("KEY", KEY))
-        server = subprocess.Popen(["sh", "-c", f"exec {text}"], cwd=office.folder, stdout=subprocess.PIPE)
+        server = subprocess.Popen(["sh", "-c", f"exec {text}"], cwd=office.folder, env=office.environment, stdout=subprocess.PIPE)
         told = []
-        while len(told) < 2:
+        while len(told) < 2 and server.poll() is None:
             run = subprocess.run(ask, capture_output=True, env=office.environment)
             if run.returncode == 0:
                 told.append(run.stdout.decode())
@@ -724,7 +803,8 @@ def comparisons(program: str) -> counting.Comparisons:
     with tempfile.TemporaryDirectory() as folder:
         office = Office(program, folder)
         try:
-            for part in (front, beginnings, weeks, spreadsheets, months, inspections, readings, letters, keys, backups, soundness, updates, services):
+            for part in (front, beginnings, weeks, spreadsheets, months, inspections, readings, letters, changes, keys, backups, soundness,
+                         updates, services):
                 yield from part(office)
         finally:
             office.end()
