@@ -117,8 +117,8 @@ def manual(version: str, seconds: int) -> str:
         ".br",
         f"{bold('tacho help')} [{italic('COMMAND')}]",
         ".SH DESCRIPTION",
-        escaped("Stores the hours that driver cards record, and checks them against the rules on driving and rest of Regulation (EC) "
-                "561/2006. The archive is a single file. A command opens it, reads its input, prints its answer, and ends; while a "
+        escaped("Stores the hours that driver cards record, and checks them against most of the rules on driving and rest of Regulation "
+                "(EC) No 561/2006, for a driver alone in the vehicle. The archive is a single file. A command opens it, reads its input, prints its answer, and ends; while a "
                 "command has it open, any other gets 'S12 store failed'. All times are UTC."),
         ".PP",
         escaped("An answer goes to standard output, also the line of a fault. An input has at most 262144 bytes, that of dump at most "
