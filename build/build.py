@@ -17,7 +17,7 @@ import subprocess
 import sys
 import tempfile
 import time
-from collections.abc import Collection, Mapping, Sequence
+from collections.abc import Callable, Collection, Mapping, Sequence
 
 Below = Mapping[str, list[str]]  # for each crate the libraries that it uses
 
@@ -29,6 +29,9 @@ PARTS = ("src", "specs", "proofs")
 
 # The memory that one process of a proof takes, in bytes, with room to spare.
 MEMORY_OF_A_JOB = 3 << 29
+
+# The kit's libraries that are linked into a program.
+LINKED = ("libos_c.a", "liblibc_c.a")
 
 # The proof of a crate is divided among at most this many processes.
 MOST_JOBS = 4
@@ -109,9 +112,9 @@ def folder_of(name: str) -> str:
     return os.path.join(TOP, "crates", name)
 
 
-def files_of(name: str) -> list[str]:
-    """The paths of the files that a crate is built from, sorted."""
-    return sorted(os.path.join(folder, file) for part in PARTS
+def files_of(name: str, parts: Sequence[str] = PARTS) -> list[str]:
+    """The paths of the files in these folders of a crate, sorted. It is built from those of PARTS."""
+    return sorted(os.path.join(folder, file) for part in parts
                   for folder, _, files in os.walk(os.path.join(folder_of(name), part)) for file in files)
 
 
@@ -148,13 +151,13 @@ def try_to_write(crates: Sequence[str]) -> None:
             raise Stop(f"{folder} can't be written ({error.strerror}), and the program is built there") from error
 
 
-def sums(below: Below, crates: Sequence[str], kit: str) -> dict[str, str]:
-    """For each crate a checksum of all that it is built from: the kit's name, its line of crates.txt, its files, and the checksums of the
-    crates that it depends on."""
+def sums(below: Below, crates: Sequence[str], kit: str, parts: Sequence[str] = PARTS) -> dict[str, str]:
+    """For each crate a checksum of all that it is built from: the kit's name, its line of crates.txt, its files in these folders, and the
+    checksums of the crates that it depends on."""
     found: dict[str, str] = {}
     for name in crates:
         whole = hashlib.sha256(repr((kit, below[name], [found[other] for other in below[name] if other in found])).encode())
-        for path in files_of(name):
+        for path in files_of(name, parts):
             with open(path, "rb") as file:
                 whole.update(repr((os.path.relpath(path, folder_of(name)), file.read())).encode())
         found[name] = whole.hexdigest()
@@ -200,18 +203,23 @@ def kept_sum(name: str) -> str:
     return os.path.join(folder_of(name), "out", "statements", "sum")
 
 
-def is_built(name: str, checksum: str) -> bool:
-    """Whether a crate's library was built from sources with this checksum."""
+def is_noted(path: str, checksum: str) -> bool:
+    """Whether a file contains this checksum."""
     try:
-        with open(kept_sum(name), encoding="utf-8") as file:
+        with open(path, encoding="utf-8") as file:
             return file.read() == checksum
     except OSError:
         return False
 
 
-def note(name: str, checksum: str) -> None:
-    """Writes down the checksum of what a crate's library was built from."""
-    with open(kept_sum(name), "w", encoding="utf-8") as file:
+def is_built(name: str, checksum: str) -> bool:
+    """Whether a crate's library was built from sources with this checksum."""
+    return is_noted(kept_sum(name), checksum)
+
+
+def note(path: str, checksum: str) -> None:
+    """Writes a checksum into a file."""
+    with open(path, "w", encoding="utf-8") as file:
         file.write(checksum)
 
 
@@ -229,7 +237,22 @@ def take_from_gate() -> None:
         if name != PROGRAM and os.path.isdir(made) and not is_built(name, checksums[name]):
             shutil.rmtree(os.path.dirname(library_of(name)), ignore_errors=True)
             shutil.copytree(made, library_of(name), copy_function=os.link)
-            note(name, checksums[name])
+            note(kept_sum(name), checksums[name])
+
+
+def show_end(path: str) -> None:
+    """Prints the last lines of a command's output."""
+    with open(path, encoding="utf-8", errors="replace") as log:
+        print("".join(log.readlines()[-20:]), end="", file=sys.stderr)
+
+
+def kill_group(process: subprocess.Popen[bytes]) -> None:
+    """Ends a process that has a process group of its own, and all that it has started."""
+    try:
+        os.killpg(process.pid, signal.SIGTERM)
+    except ProcessLookupError:
+        pass
+    process.wait()
 
 
 class Work:
@@ -264,26 +287,21 @@ class Work:
     def finish(self) -> None:
         """Writes down what the crate was built from. If the build failed, prints the last lines of its output and raises `Stop`."""
         if self.process.returncode != 0:
-            with open(self.log, encoding="utf-8", errors="replace") as log:
-                print("".join(log.readlines()[-20:]), end="", file=sys.stderr)
+            show_end(self.log)
             raise Stop(f"crates/{self.name} could not be built, for the reason above")
         if self.name != PROGRAM:
-            note(self.name, self.checksum)
+            note(kept_sum(self.name), self.checksum)
 
     def kill(self) -> None:
         """Ends the process and all that it has started."""
-        try:
-            os.killpg(self.process.pid, signal.SIGTERM)
-        except ProcessLookupError:
-            pass
-        self.process.wait()
+        kill_group(self.process)
 
 
-def link(kit: Kit) -> None:
-    """Links the program."""
+def link(kit: Kit, program: str, compiled: str) -> None:
+    """Links a program from what was compiled."""
     command = [kit.path("bin", "rattle-link"), "--target", "x86_64-unknown-linux-gnu", "--toolchain", kit.path("toolchain"),
-               "-o", "out/tacho", "out/tacho.o", kit.path("c", "libos_c.a"), kit.path("c", "liblibc_c.a")]
-    run = subprocess.run(command, cwd=folder_of(PROGRAM), stdin=subprocess.DEVNULL, stdout=sys.stderr, check=False)
+               "-o", program, compiled, *(kit.path("c", library) for library in LINKED)]
+    run = subprocess.run(command, stdin=subprocess.DEVNULL, stdout=sys.stderr, check=False)
     if run.returncode != 0:
         raise Stop("the program could not be linked, for the reason above")
 
@@ -331,13 +349,14 @@ def build(kit: Kit, below: Below, crates: Sequence[str], at_work: list[Work]) ->
         if not ended:
             time.sleep(0.2)
         stop_on_signal()
-    link(kit)
+    made = os.path.join(folder_of(PROGRAM), "out", PROGRAM)
+    link(kit, made, f"{made}.o")
 
 
-def locked(crates: Sequence[str]) -> list[int]:
-    """Locks the crates' folders against other commands, as `rt` itself does. Returns the file descriptors. Closing them releases the
+def locked(paths: Sequence[str]) -> list[int]:
+    """Locks folders against other commands, as `rt` itself locks those of crates. Returns the file descriptors. Closing them releases the
     locks."""
-    folders = [os.open(folder_of(name), os.O_RDONLY) for name in sorted(crates)]
+    folders = [os.open(path, os.O_RDONLY) for path in sorted(paths)]
     for number, folder in enumerate(folders):
         said = False
         while True:
@@ -346,7 +365,7 @@ def locked(crates: Sequence[str]) -> list[int]:
                 break
             except BlockingIOError:
                 if not said:
-                    say(f"waiting for another command to finish with {sorted(crates)[number]}")
+                    say(f"waiting for another command to finish with {os.path.relpath(sorted(paths)[number], TOP)}")
                 said = True
                 time.sleep(0.2)
                 stop_on_signal()
@@ -361,7 +380,7 @@ def run() -> None:
     below = lines_of_crates()
     crates = needed(below, PROGRAM)
     try_to_write(crates)
-    folders = locked(crates)
+    folders = locked([folder_of(name) for name in crates])
     at_work: list[Work] = []
     began = time.monotonic()
     try:
@@ -374,12 +393,12 @@ def run() -> None:
     say(f"built in {duration_text(time.monotonic() - began)}")
 
 
-def main() -> int:
-    """Builds the program, and returns the status of this script."""
+def main(work: Callable[[], None] = run) -> int:
+    """Builds the program, or does other work that may raise `Stop` or `Signal`, and returns the status of the script."""
     for number in (signal.SIGHUP, signal.SIGINT, signal.SIGTERM):
         signal.signal(number, lambda number, _: received.append(number))
     try:
-        run()
+        work()
     except Stop as stop:
         say(stop)
         return 3
