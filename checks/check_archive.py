@@ -15,7 +15,7 @@ from collections.abc import Callable, Iterator, Sequence
 from typing import Any
 
 from inputs.random_commands import Commands
-from lib import counting, old_archive, pools
+from lib import counting, old_archive, pools, seeds
 from lib.archive import rows_at
 from lib.files import content, copied, write
 from lib.office import CREATED, STORE_FAILED, Desk
@@ -31,7 +31,7 @@ from slow.slow_office import Command
 Step = tuple[str, Sequence[object]]  # a statement of SQL, and the values in it
 Change = Sequence[Step]
 
-SEEDS = 24
+SEEDS = seeds.tried(24)
 CHANGES = 20  # of an archive of a seed
 PROCESSES = 2
 HUGE = (1 << 63) - 1

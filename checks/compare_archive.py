@@ -11,7 +11,7 @@ import sys
 import tempfile
 
 from inputs import random_cards, random_commands
-from lib import counting
+from lib import counting, seeds
 from lib.office_rows import (
     ADDED, ANNA, BOTH, BREACH, DAY, DAY_OFF, DAY_OFF_LINE, EXAMINED, FREE_DAYS, FREE_LINE, LONG_NOTE, NO_AUTHOR, NOON, NOTHING,
     OTHER_DAY, SATURDAY, SPANS, bert, done, hours, refused,
@@ -19,7 +19,7 @@ from lib.office_rows import (
 from lib.script import answers, of_commands, wanted_of
 from slow import slow_office
 
-SEEDS = 160
+SEEDS = seeds.tried(160)
 PROCESSES = 2
 
 

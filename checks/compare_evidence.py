@@ -12,7 +12,7 @@ from collections.abc import Iterator
 
 from inputs import hard_timelines, random_cards
 from inputs.random_commands import date_text, driver_csv, rows_csv, rows_of
-from lib import counting, pools
+from lib import counting, pools, seeds
 from lib.files import TOP, read
 from lib.readings import FOLDER, steps_of
 from lib.script import of_commands
@@ -20,7 +20,7 @@ from slow import slow_office
 from slow.slow_office import Command
 
 KINDS = range(1, 11)
-SEEDS = 150
+SEEDS = seeds.tried(150)
 PROCESSES = 2
 ROWS = 2_000  # the most rows of an input
 LAST = hard_timelines.LAST_PAST - 1

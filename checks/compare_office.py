@@ -15,14 +15,14 @@ from typing import Any
 
 from inputs import random_cards
 from inputs.random_commands import hours_csv
-from lib import counting, office_lines, office_rows, pools, programs, rules
+from lib import counting, office_lines, office_rows, pools, programs, rules, seeds
 from lib.files import content, write
 from lib.office import (
     CHANGES, COMMANDS, READINGS, STORE_FAILED, WITH_ANNA, WITH_DAY, Desk, make_text, name_of, of_refused_file, to_full, to_nobody,
 )
 from slow import slow_archive, slow_office, slow_reader
 
-SEEDS = 80
+SEEDS = seeds.tried(80)
 PROCESSES = 2
 BITS = 40
 FREE_BYTES = range(72, 92)  # of a file of SQLite: no version of it reads them

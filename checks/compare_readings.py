@@ -15,12 +15,12 @@ from typing import Any
 
 from inputs import random_cards
 from inputs.random_commands import KEYS, date_text, driver_csv
-from lib import charts, counting, files, pools
+from lib import charts, counting, files, pools, seeds
 from lib.readings import FOLDER, steps_of
 from lib.script import of_commands
 from slow import slow_office, slow_reader
 
-SEEDS = 80
+SEEDS = seeds.tried(80)
 PROCESSES = 2
 DAY, WEEK = 1440, 10_080
 LAST_DAY = 47_481  # 2099-12-31

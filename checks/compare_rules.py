@@ -15,17 +15,17 @@ import random
 import sys
 
 from inputs import hard_timelines
-from lib import counting, programs, rules
+from lib import counting, programs, rules, seeds
 from slow import slow_rules
 
 NUMBERS = {"rest": 0, "available": 1, "work": 2, "drive": 3}
 PASSES = {"breaks": {1}, "days": {2, 3, 4, 5}, "weeks": {6, 7}, "rests": {8, 9, 10}}
 PROCESSES = 2
-LINES = 4000
-WEEKLY_LINES = 4000
-CHAINED_LINES = 3000
-SCANNED_LINES = 6000
-HELD_LINES = 2400
+LINES = seeds.tried(4000)
+WEEKLY_LINES = seeds.tried(4000)
+CHAINED_LINES = seeds.tried(3000)
+SCANNED_LINES = seeds.tried(6000)
+HELD_LINES = seeds.tried(2400)
 REFUSED_LINES = 5
 INPUT_LIMIT = 262_144
 

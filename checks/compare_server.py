@@ -21,7 +21,7 @@ from collections import namedtuple
 from typing import Any
 
 from inputs import random_requests
-from lib import counting, pools, programs
+from lib import counting, pools, programs, seeds
 from lib.archive import of_tables
 from lib.files import DOCS
 from lib.office import WITH_ANNA, Desk
@@ -36,7 +36,7 @@ from lib.server import (
 )
 from slow import slow_server
 
-SEEDS = 80
+SEEDS = seeds.tried(80)
 SLOW_SEEDS = 20
 PROCESSES = 2
 
