@@ -19,13 +19,14 @@ import time
 
 from inputs import mutated_inputs
 from inputs.mutated_inputs import NO_TEXT, PATH
-from lib import counting, programs
+from lib import counting, programs, seeds
 from lib.office import STORE_FAILED, Desk
 from lib.office_rows import ANNA, CARD, DAY, DRIVER_HEAD, HOLDER
 from lib.server import asked_of, of_asked, server_after
 from slow import slow_archive, slow_office, slow_reader
 
-SEEDS = 45
+ALL_SEEDS = 45
+SEEDS = seeds.tried(ALL_SEEDS)
 STEP = 4  # seeds of a round
 HANGING = 60  # seconds
 SHOWN = 3_000
@@ -232,7 +233,7 @@ def comparisons(program: str, asked: argparse.Namespace) -> counting.Comparisons
         for kind in ANSWERS:
             told = [f"{answer} {count}" for answer, count in answers[kind].most_common()]
             print(f"{kind}: {counts[kind]}", f"({', '.join(told)})")
-    elif asked.seed is None:
+    elif asked.seed is None and SEEDS == ALL_SEEDS:
         for kind, wanted in ANSWERS.items():
             yield f"{kind}: answers that didn't come", [answer for answer in wanted.split() if answer not in answers[kind]], []
 
