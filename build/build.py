@@ -8,7 +8,6 @@ this, so this script calls the prover as `rt` does. A crate is rebuilt if its fi
 or if the kit is another one."""
 import fcntl
 import hashlib
-import math
 import os
 import re
 import shutil
@@ -33,11 +32,12 @@ MEMORY_OF_A_JOB = 3 << 29
 # The kit's libraries that are linked into a program.
 LINKED = ("libos_c.a", "liblibc_c.a")
 
-# The proof of a crate is divided among at most this many processes.
-MOST_JOBS = 4
+# A crate that takes at least this many seconds is proved by two processes if there is room for them. In a smaller one more than half of the
+# time is loading, which each process does again.
+LARGE = 150
 
-# The seconds of processor time that each crate took in one process. They serve to find the longest chain of crates: a wrong number changes
-# the order of the work, and nothing else.
+# The seconds of processor time that each crate took in one process. They serve to find the longest chain of crates, and which crates are
+# large: a wrong number changes the order of the work and its speed, and nothing else.
 SECONDS = {
     "tacho_time": 105, "tacho_card": 103, "tacho_line": 98, "tacho_law": 32, "tacho_pass": 40, "tacho_driving": 42, "tacho_days": 51,
     "tacho_choice": 24, "tacho_rests": 75, "tacho_rules": 45, "tacho_stretches": 40, "tacho_state": 75, "tacho_sheet": 300,
@@ -118,12 +118,17 @@ def files_of(name: str, parts: Sequence[str] = PARTS) -> list[str]:
                   for folder, _, files in os.walk(os.path.join(folder_of(name), part)) for file in files)
 
 
+def seconds_of(name: str) -> int:
+    """The seconds of processor time that a crate takes in one process."""
+    return SECONDS.get(name, USUAL_SECONDS)
+
+
 def weights(below: Below, crates: Sequence[str]) -> dict[str, int]:
     """For each crate the seconds of its work and of the longest chain of crates that wait for it."""
     weight: dict[str, int] = {}
     for name in reversed(crates):
         above = [weight[other] for other in crates if name in below[other]]
-        weight[name] = SECONDS.get(name, USUAL_SECONDS) + max(above, default=0)
+        weight[name] = seconds_of(name) + max(above, default=0)
     return weight
 
 
@@ -263,6 +268,7 @@ class Work:
         are, the lower is its priority, so that it gets only the processor time that they leave."""
         self.name = name
         self.checksum = checksum
+        self.jobs = jobs
         self.began = time.monotonic()
         os.makedirs(os.path.dirname(library_of(name)), exist_ok=True)
         if os.path.exists(kept_sum(name)):
@@ -312,17 +318,9 @@ def report_progress(done: Collection[str], crates: Sequence[str], at_work: Seque
     say(f"{len(done)} of {len(crates)} crates proved, now {what}")
 
 
-def jobs_among(crates: int) -> int:
-    """The number of processes for a crate if `crates` crates can be worked on. Each further process adds a quarter to the work. So a crate
-    gets one process if there are at least as many crates as processes may work. Otherwise it gets its share and one more, which is of use
-    when other crates end."""
-    processes = room()
-    return 1 if crates >= processes else min(MOST_JOBS, math.ceil(processes / crates) + 1)
-
-
 def build(kit: Kit, below: Below, crates: Sequence[str], at_work: list[Work]) -> None:
-    """Builds the crates, as many at a time as `room` allows, and links the program. The crates with the longest chain of crates that wait
-    for them come first. `at_work` always contains the processes that are running."""
+    """Builds the crates, with as many processes at a time as `room` allows, and links the program. The crates with the longest chain of crates
+    that wait for them come first. `at_work` always contains the processes that are running."""
     weight = weights(below, crates)
     checksums = sums(below, crates, kit.name)
     done = {name for name in crates if name != PROGRAM and is_built(name, checksums[name])}
@@ -331,9 +329,9 @@ def build(kit: Kit, below: Below, crates: Sequence[str], at_work: list[Work]) ->
     while waiting or at_work:
         ready = [name for name in waiting if all(other in done or other not in crates for other in below[name])]
         begun = False
-        while ready and len(at_work) < room():
-            jobs = jobs_among(len(at_work) + len(ready))
+        while ready and (free := room() - sum(work.jobs for work in at_work)) > 0:
             name = ready.pop(0)
+            jobs = 2 if free > 1 and seconds_of(name) >= LARGE else 1
             waiting.remove(name)
             before = sum(weight[work.name] > weight[name] for work in at_work)
             at_work.append(Work(name, kit, below, checksums[name], jobs, before))

@@ -5,7 +5,7 @@ PART = 4  # `./test quick` tries one in four
 
 
 def tried(count: int) -> int:
-    """How many of so many seeds are tried. If not all, a line says so."""
+    """The number of seeds that are tried. If not all are, a line says so."""
     if "QUICK" not in os.environ:
         return count
     print(f"left out: {count - count // PART} of {count} seeds", flush=True)
