@@ -1,5 +1,6 @@
 -- The texts of a driver, derived from what was read.
-use Rattle.std.proofs.Common.{◌≡◌, ℕ, ◌*◌, ◌<◌, ◌≤◌, List, [], Option, Some, None, Ok, subst, arith}
+use Rattle.std.proofs.Common.{◌≡◌, ℕ, ◌*◌, ◌<◌, ◌≤◌, All, List, [], ◌∷◌, Option, Some, None, Ok, refl, subst, arith}
+use Rattle.std.proofs.lemmas.List.Elements.{All-nil, All-cons, All-contains}
 use Rattle.std.specs.List.{Contains}
 use Rattle.std.specs.Prelude.{IfSome}
 use Rattle.tacho_time.specs.Limits.{greatest_minute}
@@ -9,8 +10,8 @@ use Rattle.tacho_law.specs.Limits.{latest}
 use Rattle.tacho_rules.specs.Report.{IsReport}
 use Rattle.tacho_rules.specs.declared.report.Report.{Report}
 use Rattle.tacho_stretches.specs.Start.{IsEndOfHeld}
-use Rattle.tacho_stretches.specs.Stretches.{AreAll, AreStretches, Judged}
-use Rattle.tacho_state.specs.Reported.{AreStretchesOf, IsHeldWithin, IsDriverReport}
+use Rattle.tacho_stretches.specs.Stretches.{AreAll, AreStretches, Judged, first_monday}
+use Rattle.tacho_state.specs.Reported.{AreStretchesOf, IsHeldFromBase, IsHeldWithin, IsDriverReport}
 use Rattle.tacho_state.specs.State.{Driver, State, driver_of, held_spans}
 use Rattle.tacho_state.specs.Steps.{name_reading, report_reading, reading_of}
 use Rattle.tacho_sheet.specs.Chart.{IsMonthChart}
@@ -137,12 +138,6 @@ form_shown n s stretches start past line text = form_of (driver_of n s) stretche
 
 -- ---- the evidence for a month's breaches
 
--- the range has the minutes of each stretch with such a breach, and of its horizon
-abbrev pub HasRange : List Judged → ℕ → ℕ → ℕ → Type 0
-HasRange stretches month from to =
-    (start past : ℕ) → AreBounds month start past → (s : Judged) → Contains stretches s → (breaches_within start past s.breaches ≡ [] → ⊥)
-    → s.horizon.minute < greatest_minute → (from ≤ s.monday) × (s.horizon.minute < to)
-
 -- each such stretch ends by the end of 2099
 abbrev pub EndInTime : List Judged → ℕ → Type 0
 EndInTime stretches month =
@@ -156,25 +151,44 @@ IsWhyIf line stretches month text =
     → ((start past : ℕ) → AreBounds month start past → (s : Judged) → Contains stretches s → AgreeOn line held start past s)
     → IsMonthWhy held stretches month text
 
+-- each stretch begins at the base or later
+module _ (line : List Span) (end base : ℕ) where
+  IsLater : Judged → Type 0
+  IsLater s = base ≤ s.monday
+
+  all_later : (start : ℕ) (xs : List Judged) → first_monday xs ≡ Some start → base ≤ start → AreAll line end xs → All IsLater xs
+  all_later start [] first le all = All-nil IsLater
+  all_later start (s ∷ []) first le all =
+      let monday : s.monday ≡ start = cc in
+      All-cons IsLater s [] (omega (arith, monday, le)) (All-nil IsLater)
+  all_later start (s ∷ t ∷ xs) first le all =
+      let monday : s.monday ≡ start = cc in
+      let at = all.0.report.is_horizon.from in
+      let later : s.horizon.minute < t.monday = all.0.followed.0.later in
+      All-cons IsLater s (t ∷ xs) (omega (arith, monday, le))
+      (all_later t.monday (t ∷ xs) refl (omega (arith, monday, le, at, later)) all.1)
+
 -- the evidence for the breaches of a driver's month
-why_of : (month : ℕ) (o : Option Driver) (stretches : List Judged) (from to : ℕ) (line : List Span) (text : List ℕ)
+why_of : (month : ℕ) (o : Option Driver) (stretches : List Judged) (line : List Span) (text : List ℕ)
     → reading_of {A = Unit {0}} (λ d. Ok tt) o ≡ Ok tt → IfSome o (λ d. AreStretches (held_spans d) (1440 * d.base) stretches)
-    → HasRange stretches month from to → IfSome o (λ d. AgreeWithin from to line (held_spans d)) → EndInTime stretches month
+    → IfSome o (λ d. AgreeWithin (1440 * d.base) greatest_minute line (held_spans d)) → EndInTime stretches month
     → IsWhyIf line stretches month text → IsTextOf (λ d. OfStretches (λ stretches. IsMonthWhy (held_spans d) stretches month) d) o (Ok (Long text))
-why_of month None stretches from to line text there are range within early is = cc
-why_of month (Some d) stretches from to line text there are range within early is = (
+why_of month None stretches line text there are held early is = cc
+why_of month (Some d) stretches line text there are held early is = (
   stretches,
   are,
   is (held_spans d) are.end are.all (λ start past bounds s among some m inside.
       let end : s.horizon.minute ≤ latest = early s start past bounds among some in
-      let (low, high) = range start past bounds s among some (omega (arith, end)) in
+      let base = 1440 * d.base in
+      let low : base ≤ s.monday = All-contains (IsLater (held_spans d) are.end base) stretches s
+      (all_later (held_spans d) are.end base base stretches are.first (omega arith) are.all) among in
       let a = inside.0 in
       let b = inside.1 in
-      within m (omega (arith, low, a), omega (arith, high, b))),
+      held m (omega (arith, low, a), omega (arith, end, b))),
 )
 
-pub why_shown : (month n : ℕ) (s : State) (stretches : List Judged) (from to : ℕ) (line : List Span) (text : List ℕ)
-    → report_reading n s ≡ Ok tt → AreStretchesOf n s stretches → HasRange stretches month from to → IsHeldWithin n from to s line
+pub why_shown : (month n : ℕ) (s : State) (stretches : List Judged) (line : List Span) (text : List ℕ)
+    → report_reading n s ≡ Ok tt → AreStretchesOf n s stretches → IsHeldFromBase n s line
     → EndInTime stretches month → IsWhyIf line stretches month text
     → IsTextOf (λ d. OfStretches (λ stretches. IsMonthWhy (held_spans d) stretches month) d) (driver_of n s) (Ok (Long text))
-why_shown month n s stretches from to line text = why_of month (driver_of n s) stretches from to line text
+why_shown month n s stretches line text = why_of month (driver_of n s) stretches line text

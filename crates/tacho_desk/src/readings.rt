@@ -13,7 +13,7 @@ use crate::want::{MonthReading, Reading};
 use std::alloc::Global;
 use tacho_sheet::{
     breach_text, debt_text, driver_text, entry_text, file_text, form_text, gap_text, month_chart,
-    month_sheet, owed_text, range_of_why, span_csv, stretch_text, why_text,
+    month_sheet, owed_text, span_csv, stretch_text, why_text,
 };
 use tacho_state::{Keeper, StoreFault};
 use tacho_stretches::range_of;
@@ -117,9 +117,7 @@ fn why<K: Keeper>(alloc: Global, keeper: &mut K, driver: u32, month: Month) -> R
         (ShowsMonth of_month.Why month driver) }
     ensures archive { IsOfArchive (answer_of result) }
 {
-    let stretches = keeper.stretches(alloc, driver)?;
-    let (start, past) = range_of_why(&stretches, month);
-    let line = keeper.line_within(alloc, driver, start, past)?;
+    let (line, stretches) = keeper.line_and_stretches_from_base(alloc, driver)?;
     match why_text(alloc, &line, &stretches, month)? {
         Some(text) => Ok(Text::Long(text)),
         None => Err(Fault::from(StoreFault::Store)),

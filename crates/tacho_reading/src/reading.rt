@@ -6,7 +6,7 @@ ghost use Rattle.tacho_law.specs.Limits.{latest};
 ghost use Rattle.tacho_law.specs.Line.{IsBase};
 ghost use Rattle.tacho_state.specs.State.{State};
 ghost use Rattle.tacho_state.specs.Steps.{owner, name_reading, line_reading, entries_reading, file_reading, report_reading};
-ghost use Rattle.tacho_state.specs.Reported.{AreStretchesOf, IsHeldWithin, IsDriverReport};
+ghost use Rattle.tacho_state.specs.Reported.{AreStretchesOf, IsHeldWithin, IsHeldFromBase, IsDriverReport};
 ghost use Rattle.tacho_stretches.specs.Stretches.{judged_of};
 ghost use Rattle.tacho_state.specs.Summaries.{AreSummaries, told_summary};
 ghost use Rattle.tacho_state.specs.Acts.{Answers};
@@ -29,7 +29,7 @@ use tacho_rules::{Report, Scan};
 use tacho_state::{DriverSummary, Entry, StoreFault, base_of};
 use tacho_stretches::{Stretch, StretchPass};
 use tacho_tables::{SpanTable, downloads, drivers, entries, held, opening, spans};
-use tacho_time::Minute;
+use tacho_time::{GREATEST_MINUTE, Minute};
 
 /// Reads the number of the driver with this key, within a transaction.
 fn who_in<S: Alter>(tx: &mut Transaction<'_, S>, key: &[u8]) -> Result<Option<u32>, StoreFault>
@@ -388,4 +388,23 @@ pub fn line_and_stretches<S: Alter>(
     take_held(conn, driver, first, start, past, &mut pass, &mut near)?;
     let line = line_of_stored(alloc, &near)?;
     Ok((line, pass.finish()?))
+}
+
+/// Returns what a driver holds from the base on, and the driver's stretches: S4. Reads no row that ends before the base.
+pub fn line_and_stretches_from_base<S: Alter>(
+    alloc: Global,
+    conn: &mut Connection<S>,
+    driver: u32,
+) -> Result<(Line, Vec<Stretch>), StoreFault>
+    requires { conn.old.in_transaction ≡ false }
+    ensures autocommit { conn.new.in_transaction ≡ false }
+    ensures reads { ReadsOn S.Store (λ _. tt) conn.old conn.new result (report_reading driver) }
+    ensures held { HasCleanDisk (state S.Store conn.new) → (s : State) → SeesWhileOpen (state S.Store conn.old) s
+        → IfOk result (λ found. IsHeldFromBase driver s found.0) }
+    ensures stretches { HasCleanDisk (state S.Store conn.new) → (s : State) → SeesWhileOpen (state S.Store conn.old) s
+        → IfOk result (λ found. AreStretchesOf driver s (map judged_of found.1.items)) }
+{
+    let end = Minute::new(GREATEST_MINUTE);
+    let begin = begin(conn, driver, end)?;
+    line_and_stretches(alloc, conn, driver, begin.base, end)
 }

@@ -38,4 +38,4 @@ pub use reports::{breach_text, gap_text, owed_text, span_csv};
 pub use sheet::month_sheet;
 pub use stretches::{debt_text, stretch_text};
 pub use text::{driver_text, entry_text, file_text};
-pub use why::{range_of_why, why_text};
+pub use why::why_text;

@@ -1,12 +1,11 @@
 //! The breaches of a month with their evidence.
 
-ghost use Rattle.std.specs.Prelude.{◌≡◌, ◌≤◌, ◌<◌, ◌+◌, ◌++◌, ◌⊎◌, [], ℕ, List, Contains, IfOk, IfSome, IsTrue, Ok, None, true, false, map, string_bytes};
+ghost use Rattle.std.specs.Prelude.{◌≡◌, ◌≤◌, ◌++◌, ◌⊎◌, [], ℕ, List, Contains, IfOk, IfSome, IsTrue, Ok, None, true, false, map, string_bytes};
 ghost use Rattle.tacho_time.specs.declared.span.Span.{Span as SpanValue};
 ghost use Rattle.tacho_law.specs.Limits.{latest};
 ghost use Rattle.tacho_evidence.specs.OfReport.{shown_of};
 ghost use Rattle.tacho_rules.specs.Report.{IsReport};
 ghost use Rattle.tacho_stretches.specs.Stretches.{judged_of, AreAll, Judged};
-ghost use Rattle.tacho_time.specs.Limits.{greatest_minute};
 ghost use Rattle.tacho_sheet.specs.Written.{HasEvidence, IsWritten};
 ghost use Rattle.tacho_sheet.specs.Reports.{breaches_within, AreBounds};
 ghost use Rattle.tacho_sheet.specs.Why.{AgreeOn, CanBeExamined, IsMonthWhy};
@@ -21,7 +20,7 @@ use tacho_line::Line;
 use tacho_periods::Examined;
 use tacho_rules::{Report, can_be_examined, examine};
 use tacho_stretches::Stretch;
-use tacho_time::{GREATEST_MINUTE, Minute, Month, month_range};
+use tacho_time::{Minute, Month, month_range};
 
 /// True if a breach has its moment from `start` to before `past`.
 fn has_breach(breaches: &[Breach], start: Minute, past: Minute) -> bool
@@ -36,47 +35,9 @@ fn has_breach(breaches: &[Breach], start: Minute, past: Minute) -> bool
     false
 }
 
-/// Returns the range that the evidence for a month's breaches needs: to the end of the minute at the last horizon of the stretches with such
-/// a breach, from the first of their Mondays, or from the month's first minute if that is earlier. Returns the month's first minute twice if
-/// there is no such breach.
-pub fn range_of_why(stretches: &[Stretch], month: Month) -> (Minute, Minute)
-    ensures { (start past : ℕ) → AreBounds month start past → (s : Judged) → Contains (map judged_of stretches.now) s
-        → ¬ (breaches_within start past s.breaches ≡ []) → s.horizon.minute < greatest_minute
-        → (result.0 ≤ s.monday) × (s.horizon.minute < result.1) }
-{
-    let (start, past) = month_range(month);
-    let mut range = (start, start);
-    for stretch in stretches {
-        if has_breach(&stretch.report.breaches, start, past) {
-            range = with_stretch(range, stretch);
-        }
-    }
-    range
-}
-
-/// Returns a range that has the minutes of another one, and those of a stretch and of its horizon.
-fn with_stretch(range: (Minute, Minute), stretch: &Stretch) -> (Minute, Minute)
-    ensures start { result.0 ≤ range.0 }
-    ensures past { range.1 ≤ result.1 }
-    ensures monday { result.0 ≤ stretch.now.monday }
-    ensures horizon { stretch.now.report.horizon.minute < greatest_minute → stretch.now.report.horizon.minute < result.1 }
-{
-    (
-        range.0.min(stretch.monday),
-        range.1.max(minute_after(stretch.report.horizon.minute)),
-    )
-}
-
-/// Returns the next minute, if the calendar has one.
-fn minute_after(minute: Minute) -> Minute
-    ensures { minute < greatest_minute → result ≡ minute + 1 }
-{
-    Minute::new((minute.number() + 1).min(GREATEST_MINUTE))
-}
-
-/// Writes a month's breaches of all stretches, in order, each with its evidence. `line` holds what the driver holds in the range of
-/// `range_of_why`. Returns `None` if such a stretch can't be examined, since it isn't a stretch of what an archive holds: its Monday isn't one
-/// from 2000-01-03 to the end of 2099, or the line or the stretch goes past that end.
+/// Writes a month's breaches of all stretches, in order, each with its evidence. `line` holds what the driver holds in these stretches and at
+/// the minute after each. Returns `None` if such a stretch can't be examined, since it isn't a stretch of what an archive holds: its Monday
+/// isn't one from 2000-01-03 to the end of 2099, or the line or the stretch goes past that end.
 pub fn why_text(
     alloc: Global,
     line: &Line,

@@ -25,7 +25,7 @@ use tacho_state::{
     StoreFault, is_monday,
 };
 use tacho_stretches::Stretch;
-use tacho_time::{Day, Minute};
+use tacho_time::{Day, GREATEST_MINUTE, Minute};
 
 /// An archive in memory. No two of its drivers have the same number.
 #[derive(Drop)]
@@ -490,5 +490,14 @@ impl Keeper for Shelf {
         past: Minute,
     ) -> Result<(Line, Vec<Stretch>), StoreFault> {
         self.line_and_stretches_of(alloc, driver, start, past)
+    }
+
+    fn line_and_stretches_from_base(
+        &mut self,
+        alloc: Global,
+        driver: u32,
+    ) -> Result<(Line, Vec<Stretch>), StoreFault> {
+        let (first, last) = (Minute::new(0), Minute::new(GREATEST_MINUTE));
+        self.line_and_stretches_of(alloc, driver, first, last)
     }
 }

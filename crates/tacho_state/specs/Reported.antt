@@ -7,7 +7,7 @@ use Rattle.tacho_rules.specs.Report.{IsReport}
 use Rattle.tacho_stretches.specs.Stretches.{Judged, AreStretches}
 use Rattle.tacho_state.specs.State.{State, driver_of, held_spans}
 use Rattle.tacho_state.specs.Steps.{is_monday}
-use Rattle.tacho_time.specs.Limits.{first_day, last_day}
+use Rattle.tacho_time.specs.Limits.{first_day, last_day, greatest_minute}
 
 -- the report of what the driver with this number holds, from the first minute of their base; there is exactly one
 abbrev pub IsDriverReport : ℕ → State → Report → Type 0
@@ -21,6 +21,11 @@ AreStretchesOf n s stretches = IfSome (driver_of n s) (λ d. AreStretches (held_
 -- within the range, the line gives each minute the mark that the driver with this number holds; outside it, the line may give anything
 abbrev pub IsHeldWithin : ℕ → ℕ → ℕ → State → List Span → Type 0
 IsHeldWithin n start past s line = IfSome (driver_of n s) (λ d. AgreeWithin start past line (held_spans d))
+
+-- from the first minute of the base on, the line gives each minute the mark that the driver with this number holds; before it, the line may
+-- give anything
+abbrev pub IsHeldFromBase : ℕ → State → List Span → Type 0
+IsHeldFromBase n s line = IfSome (driver_of n s) (λ d. AgreeWithin (1440 * d.base) greatest_minute line (held_spans d))
 
 -- values that no archive has: a base that isn't a Monday from 2000-01-03 to the end of 2099, or a line that goes past that end
 abbrev pub IsNoBase : ℕ → Type 0

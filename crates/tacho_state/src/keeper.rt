@@ -3,7 +3,7 @@ ghost use Rattle.tacho_line.specs.Line.{mark_at};
 ghost use Rattle.tacho_card.specs.declared.fault.CardFault.{CardFault};
 ghost use Rattle.tacho_state.specs.State.{State};
 ghost use Rattle.tacho_state.specs.Steps.{Content, register_step, import_step, enter_step, withdraw_step, rebase_step, rekey_step, owner, name_reading, line_reading, entries_reading, file_reading, report_reading};
-ghost use Rattle.tacho_state.specs.Reported.{AreStretchesOf, IsHeldWithin, IsDriverReport};
+ghost use Rattle.tacho_state.specs.Reported.{AreStretchesOf, IsHeldWithin, IsHeldFromBase, IsDriverReport};
 ghost use Rattle.tacho_stretches.specs.Stretches.{judged_of};
 ghost use Rattle.tacho_state.specs.Batch.{IsBatch, batch_of};
 ghost use Rattle.tacho_state.specs.Limits.{IsKey};
@@ -181,6 +181,18 @@ pub trait Keeper {
         ensures reads { Reads stands is_clean is_live leaves is_same (λ _. tt) self.old self.new result (report_reading driver) }
         ensures within { is_clean self.new → (s : State) → stands self.old s
             → IfOk result (λ found. IsHeldWithin driver start past s found.0) }
+        ensures stretches { is_clean self.new → (s : State) → stands self.old s
+            → IfOk result (λ found. AreStretchesOf driver s (map judged_of found.1.items)) };
+
+    /// Returns what a driver holds from the base on, and the driver's stretches, in one reading: S4. The timeline gives each minute from the
+    /// base on the mark of the driver's own timeline. At earlier minutes it may give anything, so that rows before the base needn't be read.
+    fn line_and_stretches_from_base(
+        &mut self,
+        alloc: Global,
+        driver: u32,
+    ) -> Result<(Line, Vec<Stretch>), StoreFault>
+        ensures reads { Reads stands is_clean is_live leaves is_same (λ _. tt) self.old self.new result (report_reading driver) }
+        ensures held { is_clean self.new → (s : State) → stands self.old s → IfOk result (λ found. IsHeldFromBase driver s found.0) }
         ensures stretches { is_clean self.new → (s : State) → stands self.old s
             → IfOk result (λ found. AreStretchesOf driver s (map judged_of found.1.items)) };
 }

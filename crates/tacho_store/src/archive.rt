@@ -19,7 +19,8 @@ use tacho_card::Part;
 use tacho_line::Line;
 use tacho_reading::fault::store_fault;
 use tacho_reading::reading::{
-    download, drivers, entries, line, line_and_stretches, line_within, name, report, stretches, who,
+    download, drivers, entries, line, line_and_stretches, line_and_stretches_from_base,
+    line_within, name, report, stretches, who,
 };
 use tacho_rules::Report;
 use tacho_state::{
@@ -338,6 +339,14 @@ impl<S: Alter> Keeper for Archive<S> {
         past: Minute,
     ) -> Result<(Line, Vec<Stretch>), StoreFault> {
         line_and_stretches(alloc, &mut self.conn, driver, start, past)
+    }
+
+    fn line_and_stretches_from_base(
+        &mut self,
+        alloc: Global,
+        driver: u32,
+    ) -> Result<(Line, Vec<Stretch>), StoreFault> {
+        line_and_stretches_from_base(alloc, &mut self.conn, driver)
     }
 }
 

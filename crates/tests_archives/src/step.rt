@@ -229,6 +229,8 @@ fn take_reading<K: Keeper>(
         }
         Step::Stretches(driver, judged) => {
             assert_judged(rt, place, &keeper.stretches(alloc, driver)?, judged);
+            let (_, found) = keeper.line_and_stretches_from_base(alloc, driver)?;
+            assert_judged(rt, place, &found, judged);
         }
         Step::InRange(driver, range, pieces, judged) => {
             let (start, past) = range_of(range);
@@ -264,6 +266,8 @@ fn take_refused<K: Keeper>(
         }
         Step::HasNoStretches(driver, code) => {
             assert_refused(rt, place, keeper.stretches(alloc, driver).err(), code);
+            let found = keeper.line_and_stretches_from_base(alloc, driver);
+            assert_refused(rt, place, found.err(), code);
         }
         Step::HasNoRange(driver, range, code) => {
             let (start, past) = range_of(range);

@@ -3,7 +3,7 @@ use std::process::Abort;
 use std::test::Fail;
 use tacho_line::{Line, LineFault};
 use tacho_rules::can_be_examined;
-use tacho_sheet::{range_of_why, why_text};
+use tacho_sheet::why_text;
 use tacho_stretches::{Stretch, stretches};
 use tacho_time::Activity::{Drive, Rest, Work};
 use tacho_time::{Activity, Mark, Minute, Month, Span};
@@ -173,41 +173,6 @@ fn stretches_of_another_line_have_no_evidence(rt: HostRuntime) -> Result<(), Fai
     assert!(&rt;
         why_text(alloc, &line, &found, march)?.is_none(),
         "a text of a line that is too long"
-    );
-    Ok(())
-}
-
-/// The evidence needs the minutes of the stretches with a breach of the month, and the minute at the horizon.
-#[test]
-fn evidence_needs_a_range(rt: HostRuntime) -> Result<(), Fail> {
-    let alloc = rt.alloc();
-    let pieces = [
-        (0, 480, Rest),
-        (480, 750, Drive),
-        (10_080, 10_500, Rest),
-        (10_500, 10_771, Drive),
-        (20_160, 20_500, Rest),
-        (20_500, 20_771, Drive),
-        (30_240, 41_760, Rest),
-        (41_760, 42_031, Drive),
-    ];
-    let found = stretches_of(alloc, &line_of(alloc, &spans_of(alloc, &pieces)?)?)?;
-    assert!(&rt; found.len() == 4, "the stretches");
-    let march = month_of(b"2024-03")?;
-    let first = Minute::new(28_487_520);
-    assert!(&rt;
-        range_of_why(&found, march) == (first, at(20_772)),
-        "of March"
-    );
-    let april = month_of(b"2024-04")?;
-    assert!(&rt;
-        range_of_why(&found, april) == (at(30_240), at(42_032)),
-        "of April"
-    );
-    let may = month_of(b"2024-05")?;
-    assert!(&rt;
-        range_of_why(&found, may).0 == range_of_why(&found, may).1,
-        "of May"
     );
     Ok(())
 }
