@@ -1,4 +1,4 @@
-//! Does what `tool_bench examine` does, in plain Rust over std alone. It makes a timeline of working days, and examines it in one pass
+//! Does what `tool_rows measure examine` does, in plain Rust over std alone. It makes a timeline of working days, and examines it in one pass
 //! for breaches of the rules on driving and rest, and for debts. docs/RULES.md has the rules.
 use std::hint::black_box;
 use std::mem;

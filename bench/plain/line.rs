@@ -1,4 +1,4 @@
-//! Does what `tool_bench` does with a timeline, in plain Rust over a sorted `Vec`.
+//! Does what `tool_rows measure` does with a timeline, in plain Rust over a sorted `Vec`.
 #[derive(Clone, Copy, PartialEq)]
 pub struct Span {
     pub start: u32,

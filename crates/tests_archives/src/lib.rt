@@ -1,4 +1,4 @@
-//! Tests of archives through `Keeper`: what an archive answers, however it is kept.
+//! Tests of archives through `Keeper`: what an archive answers, however it is kept; and of their tables.
 #![tactic(auto)]
 
 #[cfg(test)]
@@ -15,3 +15,5 @@ mod step;
 mod stored;
 #[cfg(test)]
 mod stretch_rows;
+#[cfg(test)]
+mod tables;

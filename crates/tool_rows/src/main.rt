@@ -1,12 +1,18 @@
 //! Prints answers of the libraries, for checks that compare them with slow programs in another language. The argument says which answers.
+//! With `measure` it does work of the libraries, for the benchmark.
 #![tactic(auto)]
 
 mod card;
+mod hours;
+mod measure;
+mod passes;
 mod reports;
 mod rules;
 mod sheet;
 mod timeline;
+mod years;
 
+use measure::Work;
 use std::alloc::Global;
 use std::rt::Env;
 use std::{env, io};
@@ -33,6 +39,8 @@ enum Question {
     Entries,
     /// The driver that a CSV text registers.
     Driver,
+    /// What work came to.
+    Measure(Work),
 }
 
 /// Returns the question that the first known argument names, or `Timeline` if there is none.
@@ -47,6 +55,7 @@ fn asked(rt: &(impl Env + Alloc)) -> io::Result<Question> {
             "reports" => return Ok(Question::Reports),
             "entries" => return Ok(Question::Entries),
             "driver" => return Ok(Question::Driver),
+            "measure" => return Ok(Question::Measure(measure::asked(rt))),
             _ => (),
         }
     }
@@ -54,7 +63,12 @@ fn asked(rt: &(impl Env + Alloc)) -> io::Result<Question> {
 }
 
 /// Answers a question about an input.
-fn answer(rt: &impl Print, alloc: Global, question: Question, bytes: &[u8]) -> io::Result<()> {
+fn answer(
+    rt: &(impl Env + Alloc + Print),
+    alloc: Global,
+    question: Question,
+    bytes: &[u8],
+) -> io::Result<()> {
     match question {
         Question::Card(part) => card::answer(rt, alloc, bytes, part),
         Question::Timeline => timeline::answer(rt, alloc, bytes),
@@ -63,12 +77,23 @@ fn answer(rt: &impl Print, alloc: Global, question: Question, bytes: &[u8]) -> i
         Question::Reports => reports::answer(rt, alloc, bytes),
         Question::Entries => sheet::tell_entries(rt, alloc, bytes),
         Question::Driver => sheet::tell_driver(rt, alloc, bytes),
+        Question::Measure(Work::Adding) => measure::tell_added(rt, alloc),
+        Question::Measure(Work::Examining(way)) => measure::tell_examined(rt, alloc, way),
+        Question::Measure(Work::Reading) => measure::tell_entered(rt, alloc, bytes),
+    }
+}
+
+/// The greatest length of the input of a question in bytes.
+fn limit_of(question: Question) -> usize {
+    match question {
+        Question::Measure(_) => measure::LIMIT,
+        _ => LIMIT,
     }
 }
 
 fn main(rt: HostRuntime) -> io::Result<()> {
     let question = asked(&rt)?;
-    match read_all(rt.alloc(), &mut Device::new(rt.stdin()), LIMIT) {
+    match read_all(rt.alloc(), &mut Device::new(rt.stdin()), limit_of(question)) {
         Ok(bytes) => answer(&rt, rt.alloc(), question, &bytes),
         Err(_) => println!(rt; "not read"),
     }

@@ -1,27 +1,23 @@
-//! Work on timelines and on texts, for measurements. With two numbers as arguments, a line with that many spans is made, and that many days
-//! are added to it, one at a time. With `examine` and three numbers (days, pieces, times), a line of that many days, whose shifts have that
-//! many pieces, is examined that many times; `plain` does the same with the plain passes. With `entries` and a number, the hours in the CSV
-//! on standard input are read that many times.
-#![tactic(auto)]
+//! Work on timelines and on texts, for measurements. The arguments after `measure` say which. With two numbers, a line with that many spans is
+//! made, and that many days are added to it, one at a time. With `examine` and three numbers (days, pieces, times), a line of that many days,
+//! whose shifts have that many pieces, is examined that many times; `plain` does the same with the plain passes. With `entries` and a number,
+//! the hours in the CSV on standard input are read that many times.
 
-mod passes;
-mod sheet;
-mod years;
-
+use crate::hours;
+use crate::years::{self, Way};
 use std::alloc::Global;
 use std::rt::Env;
 use std::{env, io};
 use tacho_line::{Line, LineFault};
 use tacho_rules::limits::FIRST_BASE;
-use tacho_time::{Activity, Device, Mark, Minute, Span, read_all};
-use years::Way;
+use tacho_time::{Activity, Mark, Minute, Span};
 
-/// The most bytes that an input may have.
-const LIMIT: usize = 1_048_576;
+/// The most bytes that a text may have.
+pub(crate) const LIMIT: usize = 1_048_576;
 
 /// What is measured.
 #[derive(Clone, Copy)]
-enum Work {
+pub(crate) enum Work {
     /// Adding days to a timeline.
     Adding,
     /// Examining a timeline, in one of two ways.
@@ -96,26 +92,26 @@ fn measured(alloc: Global, count: u32, days: u32) -> Result<Line, LineFault> {
     Ok(line)
 }
 
-/// Returns the number in the argument at a place, or 24 if there is none.
+/// Returns the number in the argument at a place after `measure`, or 24 if there is none.
 fn number(rt: &(impl Env + Alloc), place: usize) -> u32 {
     let Ok(words) = env::args(rt) else {
         return 24;
     };
     for (i, word) in words.enumerate() {
-        if i == place {
+        if i == place + 1 {
             return word.parse::<u32>().unwrap_or(24);
         }
     }
     24
 }
 
-/// Returns the work that the first argument names.
-fn asked(rt: &(impl Env + Alloc)) -> Work {
+/// Returns the work that the argument after `measure` names.
+pub(crate) fn asked(rt: &(impl Env + Alloc)) -> Work {
     let Ok(words) = env::args(rt) else {
         return Work::Adding;
     };
     for (i, word) in words.enumerate() {
-        if i == 1 {
+        if i == 2 {
             return match word.as_str() {
                 "examine" => Work::Examining(Way::Scan),
                 "plain" => Work::Examining(Way::Passes),
@@ -128,7 +124,7 @@ fn asked(rt: &(impl Env + Alloc)) -> Work {
 }
 
 /// Adds days to a line, and prints the number of its spans.
-fn tell_added(rt: &(impl Env + Alloc + Print), alloc: Global) -> io::Result<()> {
+pub(crate) fn tell_added(rt: &(impl Env + Alloc + Print), alloc: Global) -> io::Result<()> {
     match measured(alloc, number(rt, 1), number(rt, 2)) {
         Ok(line) => println!(rt; "{} spans", line.spans().len()),
         Err(fault) => println!(rt; "{fault}"),
@@ -136,7 +132,11 @@ fn tell_added(rt: &(impl Env + Alloc + Print), alloc: Global) -> io::Result<()> 
 }
 
 /// Examines a line, and prints the number of its spans and what was found.
-fn tell_examined(rt: &(impl Env + Alloc + Print), alloc: Global, way: Way) -> io::Result<()> {
+pub(crate) fn tell_examined(
+    rt: &(impl Env + Alloc + Print),
+    alloc: Global,
+    way: Way,
+) -> io::Result<()> {
     match years::examined(alloc, way, number(rt, 2), number(rt, 3), number(rt, 4)) {
         Ok(count) => {
             println!(rt;
@@ -149,8 +149,12 @@ fn tell_examined(rt: &(impl Env + Alloc + Print), alloc: Global, way: Way) -> io
 }
 
 /// Reads entered hours, and prints what was found.
-fn tell_entered(rt: &(impl Env + Alloc + Print), alloc: Global, bytes: &[u8]) -> io::Result<()> {
-    match sheet::entered(alloc, bytes, number(rt, 2)) {
+pub(crate) fn tell_entered(
+    rt: &(impl Env + Alloc + Print),
+    alloc: Global,
+    bytes: &[u8],
+) -> io::Result<()> {
+    match hours::entered(alloc, bytes, number(rt, 2)) {
         Ok(count) => {
             println!(rt;
                 "{} lines, {} minutes, {} rests",
@@ -158,16 +162,5 @@ fn tell_entered(rt: &(impl Env + Alloc + Print), alloc: Global, bytes: &[u8]) ->
             )
         }
         Err(fault) => println!(rt; "{fault}"),
-    }
-}
-
-fn main(rt: HostRuntime) -> io::Result<()> {
-    match asked(&rt) {
-        Work::Adding => tell_added(&rt, rt.alloc()),
-        Work::Examining(way) => tell_examined(&rt, rt.alloc(), way),
-        Work::Reading => match read_all(rt.alloc(), &mut Device::new(rt.stdin()), LIMIT) {
-            Ok(bytes) => tell_entered(&rt, rt.alloc(), &bytes),
-            Err(_) => println!(rt; "not read"),
-        },
     }
 }

@@ -1,4 +1,4 @@
-use crate::add;
+use crate::measure::add;
 use crate::passes::examine_plainly;
 use std::alloc::{AllocError, Global};
 use tacho_law::{Breach, Debt, Kind};

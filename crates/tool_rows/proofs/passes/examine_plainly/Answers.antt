@@ -1,5 +1,5 @@
 use Rattle.tacho_rules.proofs.SliceLemmas.{slice_examined}
-use Rattle.tool_bench.proofs.passes.examine_plainly.Goals as goal
+use Rattle.tool_rows.proofs.passes.examine_plainly.Goals as goal
 
 pub breaks-requires : goal.breaks-requires
 breaks-requires c =
