@@ -151,22 +151,23 @@ IsWhyIf line stretches month text =
     → ((start past : ℕ) → AreBounds month start past → (s : Judged) → Contains stretches s → AgreeOn line held start past s)
     → IsMonthWhy held stretches month text
 
--- each stretch begins at the base or later
-module _ (line : List Span) (end base : ℕ) where
-  IsLater : Judged → Type 0
-  IsLater s = base ≤ s.monday
+-- a stretch begins at the base or later
+abbrev IsLater : ℕ → Judged → Type 0
+IsLater base s = base ≤ s.monday
 
-  all_later : (start : ℕ) (xs : List Judged) → first_monday xs ≡ Some start → base ≤ start → AreAll line end xs → All IsLater xs
-  all_later start [] first le all = All-nil IsLater
-  all_later start (s ∷ []) first le all =
-      let monday : s.monday ≡ start = cc in
-      All-cons IsLater s [] (omega (arith, monday, le)) (All-nil IsLater)
-  all_later start (s ∷ t ∷ xs) first le all =
-      let monday : s.monday ≡ start = cc in
-      let at = all.0.report.is_horizon.from in
-      let later : s.horizon.minute < t.monday = all.0.followed.0.later in
-      All-cons IsLater s (t ∷ xs) (omega (arith, monday, le))
-      (all_later t.monday (t ∷ xs) refl (omega (arith, monday, le, at, later)) all.1)
+-- so does each
+all_later : (line : List Span) (end base start : ℕ) (xs : List Judged) → first_monday xs ≡ Some start → base ≤ start → AreAll line end xs
+    → All (IsLater base) xs
+all_later line end base start [] first le all = All-nil (IsLater base)
+all_later line end base start (s ∷ []) first le all =
+    let monday : s.monday ≡ start = cc in
+    All-cons (IsLater base) s [] (omega (arith, monday, le)) (All-nil (IsLater base))
+all_later line end base start (s ∷ t ∷ xs) first le all =
+    let monday : s.monday ≡ start = cc in
+    let at = all.0.report.is_horizon.from in
+    let later : s.horizon.minute < t.monday = all.0.followed.0.later in
+    All-cons (IsLater base) s (t ∷ xs) (omega (arith, monday, le))
+    (all_later line end base t.monday (t ∷ xs) refl (omega (arith, monday, le, at, later)) all.1)
 
 -- the evidence for the breaches of a driver's month
 why_of : (month : ℕ) (o : Option Driver) (stretches : List Judged) (line : List Span) (text : List ℕ)
@@ -180,7 +181,7 @@ why_of month (Some d) stretches line text there are held early is = (
   is (held_spans d) are.end are.all (λ start past bounds s among some m inside.
       let end : s.horizon.minute ≤ latest = early s start past bounds among some in
       let base = 1440 * d.base in
-      let low : base ≤ s.monday = All-contains (IsLater (held_spans d) are.end base) stretches s
+      let low : base ≤ s.monday = All-contains (IsLater base) stretches s
       (all_later (held_spans d) are.end base base stretches are.first (omega arith) are.all) among in
       let a = inside.0 in
       let b = inside.1 in
