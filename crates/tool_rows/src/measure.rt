@@ -92,13 +92,13 @@ fn measured(alloc: Global, count: u32, days: u32) -> Result<Line, LineFault> {
     Ok(line)
 }
 
-/// Returns the number in the argument at a place after `measure`, or 24 if there is none.
+/// Returns the number in the argument at a place, or 24 if there is none.
 fn number(rt: &(impl Env + Alloc), place: usize) -> u32 {
     let Ok(words) = env::args(rt) else {
         return 24;
     };
     for (i, word) in words.enumerate() {
-        if i == place + 1 {
+        if i == place {
             return word.parse::<u32>().unwrap_or(24);
         }
     }
@@ -125,7 +125,7 @@ pub(crate) fn asked(rt: &(impl Env + Alloc)) -> Work {
 
 /// Adds days to a line, and prints the number of its spans.
 pub(crate) fn tell_added(rt: &(impl Env + Alloc + Print), alloc: Global) -> io::Result<()> {
-    match measured(alloc, number(rt, 1), number(rt, 2)) {
+    match measured(alloc, number(rt, 2), number(rt, 3)) {
         Ok(line) => println!(rt; "{} spans", line.spans().len()),
         Err(fault) => println!(rt; "{fault}"),
     }
@@ -137,7 +137,7 @@ pub(crate) fn tell_examined(
     alloc: Global,
     way: Way,
 ) -> io::Result<()> {
-    match years::examined(alloc, way, number(rt, 2), number(rt, 3), number(rt, 4)) {
+    match years::examined(alloc, way, number(rt, 3), number(rt, 4), number(rt, 5)) {
         Ok(count) => {
             println!(rt;
                 "{} spans, {} breaches, {} debts, sum {}",
@@ -154,7 +154,7 @@ pub(crate) fn tell_entered(
     alloc: Global,
     bytes: &[u8],
 ) -> io::Result<()> {
-    match hours::entered(alloc, bytes, number(rt, 2)) {
+    match hours::entered(alloc, bytes, number(rt, 3)) {
         Ok(count) => {
             println!(rt;
                 "{} lines, {} minutes, {} rests",
