@@ -319,8 +319,8 @@ def report_progress(done: Collection[str], crates: Sequence[str], at_work: Seque
 
 
 def build(kit: Kit, below: Below, crates: Sequence[str], at_work: list[Work]) -> None:
-    """Builds the crates, with as many processes at a time as `room` allows, and links the program. The crates with the longest chain of crates
-    that wait for them come first. `at_work` always contains the processes that are running."""
+    """Builds the crates, with as many processes at a time as `room` allows, and links the program if it is one of them. The crates with the
+    longest chain of crates that wait for them come first. `at_work` always contains the processes that are running."""
     weight = weights(below, crates)
     checksums = sums(below, crates, kit.name)
     done = {name for name in crates if name != PROGRAM and is_built(name, checksums[name])}
@@ -347,8 +347,9 @@ def build(kit: Kit, below: Below, crates: Sequence[str], at_work: list[Work]) ->
         if not ended:
             time.sleep(0.2)
         stop_on_signal()
-    made = os.path.join(folder_of(PROGRAM), "out", PROGRAM)
-    link(kit, made, f"{made}.o")
+    if PROGRAM in crates:
+        made = os.path.join(folder_of(PROGRAM), "out", PROGRAM)
+        link(kit, made, f"{made}.o")
 
 
 def locked(paths: Sequence[str]) -> list[int]:
@@ -370,13 +371,15 @@ def locked(paths: Sequence[str]) -> list[int]:
     return folders
 
 
-def run() -> None:
-    """Builds the program. Raises `Stop` if that isn't possible."""
+def run(wanted: Sequence[str] = (PROGRAM,)) -> None:
+    """Builds the program, or these crates. Raises `Stop` if that isn't possible."""
     if not os.path.exists(os.path.join(TOP, "crates.txt")):
         raise Stop(f"crates.txt isn't beside the script, in {TOP}")
     kit = Kit()
     below = lines_of_crates()
-    crates = needed(below, PROGRAM)
+    crates: list[str] = []
+    for name in wanted:
+        needed(below, name, crates)
     try_to_write(crates)
     folders = locked([folder_of(name) for name in crates])
     at_work: list[Work] = []
