@@ -7,14 +7,6 @@ use tacho_time::Minute;
 /// An identification of kind 00: the card's number ends in 00.
 const IDENTIFIED: &[u8] = b"\x05\x20\x00\x00\x11\x0dD123456789012300";
 
-const OTHER_HOLDER: &[u8] = b"\x05\x20\x02\x00\x11\x0dD123456789012400";
-
-/// Activity data of kind 00 without records: both pointers are 0.
-const ACTIVITY: &[u8] =
-    b"\x05\x04\x00\x00\x10\x00\x00\x00\x00\x00\x00\x00\x00\x00\x00\x00\x00\x00\x00\x00\x00";
-
-const SHORT: &[u8] = b"\x05\x20\x00\x00\x10\x0dD12345678901230";
-
 /// Returns the holder that a file with these bytes names.
 fn holder_of(bytes: &[u8]) -> Result<[u8; 15], CardFault> {
     Ok(CardFile::read(bytes)?.holder())
@@ -32,32 +24,6 @@ fn reads_the_holder(rt: HostRuntime) {
 }
 
 #[test]
-fn names_the_first_fault(rt: HostRuntime) -> Result<(), Fail> {
-    assert_same(&rt, holder_of(&[]), Err(CardFault::NoIdentification));
-    assert_same(&rt, holder_of(SHORT), Err(CardFault::ShortIdentification));
-    for (more, fault) in [
-        (IDENTIFIED, CardFault::Twice(0x0520, 0)),
-        (OTHER_HOLDER, CardFault::TwoCards),
-        (b"\x05\x04\x01\x00", CardFault::Truncated(22)),
-    ] {
-        let bytes = joined(rt.alloc(), IDENTIFIED, more)?;
-        assert_same(&rt, holder_of(&bytes), Err(fault));
-    }
-    Ok(())
-}
-
-#[test]
-fn finds_the_cut(rt: HostRuntime) {
-    for length in 1..IDENTIFIED.len() {
-        let cut = &IDENTIFIED[..length];
-        assert!(rt;
-            holder_of(cut) == Err(CardFault::Truncated(0)),
-            "at {length}"
-        );
-    }
-}
-
-#[test]
 fn goes_over_the_blocks(rt: HostRuntime) -> Result<(), Fail> {
     let file = CardFile::read(IDENTIFIED)?;
     let mut blocks = file.blocks();
@@ -66,34 +32,6 @@ fn goes_over_the_blocks(rt: HostRuntime) -> Result<(), Fail> {
     assert_same(&rt, block.kind(), 0);
     assert_same(&rt, block.value().len(), 17);
     assert!(rt; blocks.next().is_none());
-    Ok(())
-}
-
-#[test]
-fn wants_activity(rt: HostRuntime) -> Result<(), Fail> {
-    let file = CardFile::read(IDENTIFIED)?;
-    assert_same(
-        &rt,
-        file.activity(Part::Both).err(),
-        Some(CardFault::NoActivity),
-    );
-    Ok(())
-}
-
-#[test]
-fn chooses_the_activity(rt: HostRuntime) -> Result<(), Fail> {
-    let bytes = joined(rt.alloc(), IDENTIFIED, ACTIVITY)?;
-    let file = CardFile::read(&bytes)?;
-    for part in [Part::First, Part::Both] {
-        let chosen = file.activity(part)?;
-        assert!(rt; chosen[0].is_some());
-        assert!(rt; chosen[1].is_none());
-    }
-    assert_same(
-        &rt,
-        file.activity(Part::Second).err(),
-        Some(CardFault::NoActivity),
-    );
     Ok(())
 }
 

@@ -3,8 +3,6 @@
 #![tactic(auto)]
 
 #[cfg(test)]
-mod daily_rows;
-#[cfg(test)]
 mod devices;
 #[cfg(test)]
 mod drivers;
@@ -12,8 +10,6 @@ mod drivers;
 mod each_pass;
 #[cfg(test)]
 mod evidence;
-#[cfg(test)]
-mod examinations;
 #[cfg(test)]
 mod files;
 #[cfg(test)]

@@ -55,48 +55,6 @@ fn monday(alloc: Global) -> Result<Line, LineFault> {
 }
 
 #[test]
-fn a_contradiction_is_the_least_minute(rt: HostRuntime) -> Result<(), Fail> {
-    let line = monday(rt.alloc())?;
-    let with_the_line = [single(500, 520, Activity::Drive)];
-    let Err(fault) = line.gains(rt.alloc(), &with_the_line) else {
-        panic!(rt; "no fault");
-    };
-    assert_same(&rt, fault, LineFault::Contradiction(minute(500)));
-    let with_each_other = [
-        single(5000, 5010, Activity::Drive),
-        single(5005, 5020, Activity::Work),
-    ];
-    let Err(fault) = line.gains(rt.alloc(), &with_each_other) else {
-        panic!(rt; "no fault");
-    };
-    assert_same(&rt, fault, LineFault::Contradiction(minute(5005)));
-    let with_both = [
-        single(5000, 5010, Activity::Drive),
-        single(5005, 5020, Activity::Work),
-        single(700, 710, Activity::Rest),
-    ];
-    let Err(fault) = line.gains(rt.alloc(), &with_both) else {
-        panic!(rt; "no fault");
-    };
-    assert_same(&rt, fault, LineFault::Contradiction(minute(700)));
-    Ok(())
-}
-
-#[test]
-fn an_empty_span_comes_first(rt: HostRuntime) -> Result<(), Fail> {
-    let line = monday(rt.alloc())?;
-    let spans = [
-        single(0, 1, Activity::Drive),
-        single(10, 10, Activity::Rest),
-    ];
-    let Err(fault) = line.gains(rt.alloc(), &spans) else {
-        panic!(rt; "no fault");
-    };
-    assert_same(&rt, fault, LineFault::EmptySpan(1));
-    Ok(())
-}
-
-#[test]
 fn gains_are_what_is_not_held(rt: HostRuntime) -> Result<(), Fail> {
     let line = monday(rt.alloc())?;
     let spans = [

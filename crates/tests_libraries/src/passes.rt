@@ -1,15 +1,13 @@
 ghost use Rattle.std.specs.Prelude.{◌≡◌, ◌+◌, ◌*◌, ◌<◌, ◌≤◌, All, IfOk, false, length};
 ghost use Rattle.tacho_law.specs.Line.{Joined};
 
+use crate::pieces::{BASE, at, breach, debt};
 use crate::same::assert_same;
 use std::alloc::{AllocError, Global};
 use std::test::Fail;
 use tacho_plain::{breaks, days, rests, weeks};
-use tacho_rules::{Breach, Debt, Found, Kind};
-use tacho_time::{Activity, Mark, Minute, Span, Week};
-
-/// 2024-03-04 00:00, a Monday's first minute.
-const BASE: u32 = 28_491_840;
+use tacho_rules::{Breach, Found, Kind};
+use tacho_time::{Activity, Mark, Minute, Span};
 
 /// 2024-03-05 00:00.
 const HORIZON: u32 = 28_493_280;
@@ -48,38 +46,12 @@ fn drive(start: u32, past: u32) -> Span
     single(start, past, Activity::Drive)
 }
 
-/// Returns the breach of the rule on breaks with these minutes from the base.
-fn no_break(moment: u32, since: u32, amount: u32) -> Breach
-    requires moment { moment ≤ 1440 }
-    requires since { since ≤ 1440 }
-{
-    Breach {
-        kind: Kind::B1,
-        moment: Minute::new(BASE + moment),
-        since: Minute::new(BASE + since),
-        amount,
-    }
-}
-
 /// Returns the breaches of the day's spans.
 fn breaks_of_day(alloc: Global, spans: &[Span]) -> Result<Vec<Breach>, AllocError>
     requires joined { Joined spans.now 28491840 28493280 }
     requires single { All (λ span. span.mark.crew ≡ false) spans.now }
 {
     breaks(alloc, spans, Minute::new(BASE), Minute::new(HORIZON))
-}
-
-/// Returns the breach of a rule on days with these minutes from the base.
-fn of_day(kind: Kind, moment: u32, since: u32, amount: u32) -> Breach
-    requires moment { moment ≤ 1440 }
-    requires since { since ≤ 1440 }
-{
-    Breach {
-        kind,
-        moment: Minute::new(BASE + moment),
-        since: Minute::new(BASE + since),
-        amount,
-    }
 }
 
 /// Returns the breaches of the rules on days in the day's spans.
@@ -97,38 +69,8 @@ fn a_day_of_601_driving_minutes(rt: HostRuntime) -> Result<(), Fail> {
     assert_same(
         &rt,
         found.as_slice(),
-        [of_day(Kind::B4, 960, 360, 1)].as_slice(),
+        [breach(Kind::B4, at(4, 960), at(4, 360), 1)].as_slice(),
     );
-    Ok(())
-}
-
-#[test]
-fn a_rest_of_530_minutes_within_24_hours(rt: HostRuntime) -> Result<(), Fail> {
-    let spans = [
-        rest(0, 10),
-        single(10, 920, Activity::Work),
-        rest(920, 1440),
-    ];
-    let found = days_of_day(rt.alloc(), &spans)?;
-    assert_same(
-        &rt,
-        found.as_slice(),
-        [of_day(Kind::B2, 910, 10, 10)].as_slice(),
-    );
-    Ok(())
-}
-
-#[test]
-fn a_break_of_45_minutes(rt: HostRuntime) -> Result<(), Fail> {
-    let spans = [
-        rest(0, 360),
-        drive(360, 630),
-        rest(630, 675),
-        drive(675, 945),
-        rest(945, 1440),
-    ];
-    let found = breaks_of_day(rt.alloc(), &spans)?;
-    assert_same(&rt, found.len(), 0);
     Ok(())
 }
 
@@ -136,57 +78,8 @@ fn a_break_of_45_minutes(rt: HostRuntime) -> Result<(), Fail> {
 fn one_minute_too_many(rt: HostRuntime) -> Result<(), Fail> {
     let spans = [rest(0, 360), drive(360, 631), rest(631, 1440)];
     let found = breaks_of_day(rt.alloc(), &spans)?;
-    assert_same(&rt, found.as_slice(), [no_break(630, 360, 1)].as_slice());
-    Ok(())
-}
-
-#[test]
-fn fifteen_minutes_and_then_thirty(rt: HostRuntime) -> Result<(), Fail> {
-    let spans = [
-        rest(0, 360),
-        drive(360, 480),
-        rest(480, 495),
-        drive(495, 645),
-        rest(645, 675),
-        drive(675, 945),
-        rest(945, 1440),
-    ];
-    let found = breaks_of_day(rt.alloc(), &spans)?;
-    assert_same(&rt, found.len(), 0);
-    Ok(())
-}
-
-#[test]
-fn thirty_minutes_and_then_fifteen(rt: HostRuntime) -> Result<(), Fail> {
-    let spans = [
-        rest(0, 360),
-        drive(360, 480),
-        rest(480, 510),
-        drive(510, 660),
-        rest(660, 675),
-        drive(675, 945),
-        rest(945, 1440),
-    ];
-    let found = breaks_of_day(rt.alloc(), &spans)?;
-    assert_same(&rt, found.as_slice(), [no_break(675, 360, 270)].as_slice());
-    Ok(())
-}
-
-#[test]
-fn a_first_part_serves_once(rt: HostRuntime) -> Result<(), Fail> {
-    let spans = [
-        rest(0, 360),
-        drive(360, 480),
-        rest(480, 495),
-        drive(495, 555),
-        rest(555, 585),
-        drive(585, 705),
-        rest(705, 735),
-        drive(735, 915),
-        rest(915, 1440),
-    ];
-    let found = breaks_of_day(rt.alloc(), &spans)?;
-    assert_same(&rt, found.as_slice(), [no_break(885, 585, 30)].as_slice());
+    let wanted = breach(Kind::B1, at(4, 630), at(4, 360), 1);
+    assert_same(&rt, found.as_slice(), [wanted].as_slice());
     Ok(())
 }
 
@@ -237,70 +130,11 @@ fn breaches_of_weeks(alloc: Global, ends: &[u32], past: u32) -> Result<Vec<Breac
     weeks(alloc, &spans, Minute::new(BASE), Minute::new(BASE + past))
 }
 
-/// Returns the breach at a minute from the base.
-fn too_much(kind: Kind, moment: u32, since: Minute, amount: u32) -> Breach
-    requires { moment ≤ 20160 }
-{
-    Breach {
-        kind,
-        moment: Minute::new(BASE + moment),
-        since,
-        amount,
-    }
-}
-
-#[test]
-fn a_week_of_56_hours(rt: HostRuntime) -> Result<(), Fail> {
-    let found = breaches_of_weeks(rt.alloc(), &[885, 885, 885, 885, 885, 885, 885], 11_520)?;
-    assert_same(&rt, found.len(), 0);
-    Ok(())
-}
-
 #[test]
 fn a_week_of_a_minute_more(rt: HostRuntime) -> Result<(), Fail> {
     let found = breaches_of_weeks(rt.alloc(), &[885, 885, 885, 885, 885, 885, 886], 11_520)?;
-    // 2024-03-10 14:45.
-    let wanted = too_much(Kind::B6, 9525, Minute::new(BASE), 1);
+    let wanted = breach(Kind::B6, at(10, 885), at(4, 0), 1);
     assert_same(&rt, found.as_slice(), [wanted].as_slice());
-    Ok(())
-}
-
-#[test]
-fn two_weeks_of_90_hours(rt: HostRuntime) -> Result<(), Fail> {
-    let ends = [
-        885, 885, 885, 885, 885, 885, 0, 825, 825, 825, 825, 825, 825,
-    ];
-    let found = breaches_of_weeks(rt.alloc(), &ends, 20_160)?;
-    assert_same(&rt, found.len(), 0);
-    Ok(())
-}
-
-#[test]
-fn two_weeks_of_a_minute_more(rt: HostRuntime) -> Result<(), Fail> {
-    let ends = [
-        885, 885, 885, 885, 885, 885, 0, 825, 825, 825, 825, 825, 826,
-    ];
-    let found = breaches_of_weeks(rt.alloc(), &ends, 20_160)?;
-    // 2024-03-16 13:45.
-    let wanted = too_much(Kind::B7, 18_105, Minute::new(BASE), 1);
-    assert_same(&rt, found.as_slice(), [wanted].as_slice());
-    Ok(())
-}
-
-#[test]
-fn a_week_of_91_hours_counts_with_both_its_neighbours(rt: HostRuntime) -> Result<(), Fail> {
-    let found = breaches_of_weeks(
-        rt.alloc(),
-        &[1185, 1185, 1185, 1185, 1185, 1185, 1185],
-        11_520,
-    )?;
-    // 2024-03-08 10:45, and 2024-03-10 18:45.
-    let wanted = [
-        too_much(Kind::B6, 6405, Minute::new(BASE), 2100),
-        too_much(Kind::B7, 9765, Minute::new(BASE - 10_080), 60),
-        too_much(Kind::B7, 9765, Minute::new(BASE), 60),
-    ];
-    assert_same(&rt, found.as_slice(), wanted.as_slice());
     Ok(())
 }
 
@@ -321,17 +155,12 @@ fn a_late_and_short_weekly_rest_that_a_night_pays(rt: HostRuntime) -> Result<(),
     let found = found_of_rests(rt.alloc(), &ends, 20_160)?;
     // The weekly rest before the first work ends on the 4th at 06:00, so the next has to start by the 10th at 06:00. It starts there at
     // 14:45, 525 minutes late. The last one starts on the 16th, in time. The two weeks have enough weekly rests.
-    let late = too_much(Kind::B8, 9000, Minute::new(BASE + 360), 525);
+    let late = breach(Kind::B8, at(10, 360), at(4, 360), 525);
     assert_same(&rt, found.breaches.as_slice(), [late].as_slice());
     // That rest is the main rest of its week. It lasts to the 12th at 06:00 and has 555 + 1,440 + 360 minutes, 345 fewer than 2,700. The
     // night from the 12th at 15:16 has 884 minutes: 344 in addition to nine hours, one too few. The night from the 13th at 15:15 has 885
     // minutes, and pays. The deadline is 1 April at 00:00.
-    let owed = Debt {
-        week: Week::new(2826),
-        amount: 345,
-        deadline: Minute::new(BASE + 40_320),
-        paid_by: Some(Minute::new(BASE + 13_875)),
-    };
+    let owed = debt(345, Some(at(13, 915)));
     assert_same(&rt, found.debts.as_slice(), [owed].as_slice());
     Ok(())
 }

@@ -1,16 +1,11 @@
-ghost use Rattle.std.specs.Prelude.{◌≤◌};
-
 use std::alloc::{AllocError, Global};
 use std::test::Fail;
 use tacho_line::{Line, LineFault};
-use tacho_rules::{Breach, Cause, Debt, Kind, Report, can_be_examined, examine};
-use tacho_time::{Activity, Mark, Minute, Span, Week, first_minute};
+use tacho_rules::{Breach, Cause, Debt, Kind, can_be_examined, examine};
+use tacho_time::{Activity, Mark, Minute, Span, week_of};
 
 /// 2024-03-04 00:00, a Monday's first minute.
 pub(crate) const BASE: u32 = 28_491_840;
-
-/// The week of that Monday.
-pub(crate) const WEEK: u32 = 2826;
 
 /// An activity on days of March 2024, from one minute of the day to another. Day 32 is 1 April, and so on.
 #[derive(Clone, Copy)]
@@ -50,7 +45,7 @@ pub(crate) fn drive(first: u32, last: u32, from: u32, to: u32) -> Piece {
 }
 
 /// Returns the mark of a driver who is alone.
-pub(crate) fn alone(activity: Activity) -> Mark {
+fn alone(activity: Activity) -> Mark {
     Mark {
         activity,
         crew: false,
@@ -58,7 +53,7 @@ pub(crate) fn alone(activity: Activity) -> Mark {
 }
 
 /// Adds spans to a line.
-pub(crate) fn add(alloc: Global, line: &mut Line, spans: &[Span]) -> Result<(), LineFault> {
+fn add(alloc: Global, line: &mut Line, spans: &[Span]) -> Result<(), LineFault> {
     let gains = line.gains(alloc, spans)?;
     if line.add(&gains).is_err() {
         return Err(LineFault::Memory);
@@ -80,7 +75,7 @@ fn spans_of(alloc: Global, piece: Piece) -> Result<Vec<Span>, AllocError> {
 }
 
 /// Adds rest to a line where it holds nothing, from the base to a horizon.
-pub(crate) fn add_rest(alloc: Global, line: &mut Line, horizon: Minute) -> Result<(), LineFault> {
+fn add_rest(alloc: Global, line: &mut Line, horizon: Minute) -> Result<(), LineFault> {
     let gaps = line.gaps(alloc, Minute::new(BASE), horizon)?;
     for gap in &gaps {
         let rest = Span {
@@ -103,35 +98,7 @@ pub(crate) fn line_of(alloc: Global, pieces: &[Piece], horizon: Minute) -> Resul
     Ok(line)
 }
 
-/// Returns the report of a line, from the base's week or the next.
-pub(crate) fn report_of(alloc: Global, line: &Line, week: u32) -> Result<Report, Fail>
-    requires { week ≤ 1 }
-{
-    let base = first_minute(Week::new(WEEK + week));
-    if !can_be_examined(line, base) {
-        return Err(Fail::new("a line that can't be examined"));
-    }
-    Ok(examine(alloc, line, base)?)
-}
-
-/// Returns true if the report of a line has a horizon that isn't held, these breaches and these debts.
-pub(crate) fn has_report(
-    alloc: Global,
-    line: &Line,
-    horizon: Minute,
-    breaches: &[Breach],
-    debts: &[Debt],
-) -> Result<bool, Fail> {
-    let report = report_of(alloc, line, 0)?;
-    Ok(
-        report.horizon.minute == horizon
-            && report.horizon.cause == Cause::Unknown
-            && report.breaches.as_slice() == breaches
-            && report.debts.as_slice() == debts,
-    )
-}
-
-/// Returns true if this is the report of pieces with rest between them.
+/// Returns true if the report of pieces with rest between them has a horizon that isn't held, these breaches and these debts.
 pub(crate) fn finds(
     alloc: Global,
     pieces: &[Piece],
@@ -139,12 +106,17 @@ pub(crate) fn finds(
     breaches: &[Breach],
     debts: &[Debt],
 ) -> Result<bool, Fail> {
-    has_report(
-        alloc,
-        &line_of(alloc, pieces, horizon)?,
-        horizon,
-        breaches,
-        debts,
+    let line = line_of(alloc, pieces, horizon)?;
+    let base = Minute::new(BASE);
+    if !can_be_examined(&line, base) {
+        return Err(Fail::new("a line that can't be examined"));
+    }
+    let report = examine(alloc, &line, base)?;
+    Ok(
+        report.horizon.minute == horizon
+            && report.horizon.cause == Cause::Unknown
+            && report.breaches.as_slice() == breaches
+            && report.debts.as_slice() == debts,
     )
 }
 
@@ -161,7 +133,7 @@ pub(crate) fn breach(kind: Kind, moment: Minute, since: Minute, amount: u32) -> 
 /// Returns a debt of the base's week.
 pub(crate) fn debt(amount: u32, paid_by: Option<Minute>) -> Debt {
     Debt {
-        week: Week::new(WEEK),
+        week: week_of(Minute::new(BASE)),
         amount,
         deadline: at(32, 0),
         paid_by,
