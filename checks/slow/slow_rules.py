@@ -1,4 +1,4 @@
-"""Breaches and debts of the rules on driving and rest hours of Regulation (EC) 561/2006, computed slowly.
+"""Breaches and debts of the rules on driving and rest hours of Regulation (EC) No 561/2006, computed slowly.
 
 Every function says one definition. A minute is a whole number, a run holds the minutes from its start to before its
 past, and nothing is remembered between two questions. Use it to check a quicker program, never in place of one.

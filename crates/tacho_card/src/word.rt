@@ -5,7 +5,7 @@ use std::marker::Model;
 use tacho_time::{Activity, Mark};
 
 /// ActivityChangeInfo (Annex IC, Appendix 1): the sixteen bits `scpaattttttttttt` of a change of activity.
-#[derive(Clone, Copy, Debug, PartialEq, Eq)]
+#[derive(Clone, Copy)]
 pub struct Word {
     bits: u16,
 }

@@ -11,7 +11,7 @@ use tacho_card::{CardFault, CardFile, Part, spans};
 use tacho_time::Span;
 
 /// A stored card file: its number among the driver's downloads, the number of the part that was read, and its bytes.
-#[derive(Debug, Drop)]
+#[derive(Drop)]
 pub struct FileRow {
     pub number: u64,
     pub part: u64,

@@ -10,7 +10,7 @@ use tacho_time::{Activity, Mark};
 
 /// A stored entry, without its author and its note: its number among the driver's entries, its minutes, the number of its activity, and 1
 /// if it is withdrawn (else 0).
-#[derive(Clone, Copy, Debug, PartialEq, Eq)]
+#[derive(Clone, Copy)]
 pub struct HoursRow {
     pub number: u64,
     pub start: u64,

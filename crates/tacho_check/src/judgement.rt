@@ -16,7 +16,7 @@ use crate::wide::{Wide, canonical, keeps};
 use std::alloc::{AllocError, Global};
 
 /// What a driver's row in `drivers` counts.
-#[derive(Clone, Copy, Debug, PartialEq, Eq)]
+#[derive(Clone, Copy)]
 pub struct Counts {
     pub downloads: u64,
     pub entries: u64,

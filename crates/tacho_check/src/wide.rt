@@ -10,7 +10,7 @@ use std::alloc::{AllocError, Global};
 use tacho_time::Mark;
 
 /// Minutes from `start` to before `past`, with one mark. Unlike those of a `Span`, the numbers can be any that a table stores.
-#[derive(Clone, Copy, Debug, PartialEq, Eq)]
+#[derive(Clone, Copy)]
 pub struct Wide {
     pub start: u64,
     pub past: u64,

@@ -1,5 +1,5 @@
 -- Trusted in part: What is counted in a week, given its weekly rests, and whether the rest that crosses its start is counted before
--- it and the one that crosses its end is counted by its end (Regulation (EC) 561/2006, Articles 8(6), first subparagraph, and 8(9)).
+-- it and the one that crosses its end is counted by its end (Regulation (EC) No 561/2006, Articles 8(6), first subparagraph, and 8(9)).
 use Rattle.std.specs.Prelude.{◌≡◌, ◌+◌, ◌&&◌, ◌||◌, not, ℕ, Bool, true, false, List, Option, Some, None, is_some}
 use Rattle.std.specs.Prelude.{if◌then◌else◌, slice_index_or, nat_lt, nat_le}
 use Rattle.tacho_choice.specs.declared.counted.Counted.{Counted}

@@ -1,4 +1,4 @@
--- Trusted in part: The weekly rests of a week by where they are, and the outcomes that choices leave of a week (Regulation (EC)
+-- Trusted in part: The weekly rests of a week by where they are, and the outcomes that choices leave of a week (Regulation (EC) No
 -- 561/2006, Articles 8(6), first subparagraph, and 8(9)).
 use Rattle.std.specs.Prelude.{◌≡◌, ◌↔◌, ℕ, ◌+◌, ◌-◌, ◌/◌, ◌<◌, ◌≤◌, ◌⊎◌, Bool, true, false, nat_le, List, None}
 use Rattle.std.specs.Prelude.{◌&&◌, ◌||◌}

@@ -1,4 +1,4 @@
-//! The week in which each weekly rest is counted (Articles 8(6), first subparagraph, and 8(9) of Regulation (EC) 561/2006): the outcomes
+//! The week in which each weekly rest is counted (Articles 8(6), first subparagraph, and 8(9) of Regulation (EC) No 561/2006): the outcomes
 //! that all choices leave of a week, computed from those of the week before.
 #![tactic(auto)]
 

@@ -4,7 +4,7 @@ ghost use Rattle.tacho_cli.specs.Words.{has_driver, word_id};
 use tacho_desk::Want;
 
 /// What a subcommand does.
-#[derive(Clone, Copy, Debug, PartialEq, Eq)]
+#[derive(Clone, Copy)]
 pub(crate) enum Act {
     /// Prints the spans of a value of EF Driver_Activity_Data.
     Dump,

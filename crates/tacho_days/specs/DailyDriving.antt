@@ -1,5 +1,5 @@
--- Private to tacho_days: Driving in duty days and the extended days of a week (Regulation (EC) 561/2006, Article 6(1)), span by span: the
--- state of the rules, and what it represents.
+-- Private to tacho_days: Driving in duty days and the extended days of a week (Regulation (EC) No 561/2006, Article 6(1)), span by span:
+-- the state of the rules, and what it represents.
 use Rattle.std.specs.Prelude.{◌≡◌, ℕ, ◌+◌, ◌-◌, ◌/◌, ◌++◌, ◌≤◌, ◌⊎◌, ◌&&◌, nat_le, nat_lt, nat_eq, Bool}
 use Rattle.std.specs.Prelude.{if◌then◌else◌, Option, None, Some, List, Contains, []}
 use Rattle.tacho_time.specs.declared.span.Span.{Span}

@@ -1,4 +1,4 @@
--- Private to tacho_days: What the pass over daily rests represents (Regulation (EC) 561/2006, Articles 4(g), 8(2) and 8(4)).
+-- Private to tacho_days: What the pass over daily rests represents (Regulation (EC) No 561/2006, Articles 4(g), 8(2) and 8(4)).
 use Rattle.std.specs.Prelude.{◌≡◌, ℕ, ◌<◌, ◌≤◌, ◌⊎◌, ◌↔◌, IsTrue, List, Contains, []}
 use Rattle.tacho_time.specs.declared.span.Span.{Span}
 use Rattle.tacho_law.specs.declared.run.Run.{Run}

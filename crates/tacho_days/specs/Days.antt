@@ -1,4 +1,4 @@
--- Private to tacho_days: What the pass over the rules on days finds (Regulation (EC) 561/2006, Articles 6(1), 8(2) and 8(4)).
+-- Private to tacho_days: What the pass over the rules on days finds (Regulation (EC) No 561/2006, Articles 6(1), 8(2) and 8(4)).
 use Rattle.std.specs.Prelude.{◌≡◌, ℕ, List, []}
 use Rattle.tacho_time.specs.declared.span.Span.{Span}
 use Rattle.tacho_law.specs.declared.breach.Breach.{Breach}

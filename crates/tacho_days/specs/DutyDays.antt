@@ -1,4 +1,4 @@
--- Private to tacho_days: Duty days and the rests that end them, one by one (Regulation (EC) 561/2006, Articles 4(g) and 4(k)).
+-- Private to tacho_days: Duty days and the rests that end them, one by one (Regulation (EC) No 561/2006, Articles 4(g) and 4(k)).
 use Rattle.std.specs.Prelude.{◌≡◌, ℕ, ◌≤◌, ◌⊎◌, nat_le, Bool, List, Contains, []}
 use Rattle.tacho_law.specs.declared.run.Run.{Run}
 use Rattle.tacho_law.specs.declared.days.DutyDay.{DutyDay}

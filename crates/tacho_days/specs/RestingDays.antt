@@ -1,4 +1,4 @@
--- Private to tacho_days: Daily rests, judged one by one as they end (Regulation (EC) 561/2006, Articles 4(g), 8(2) and 8(4)).
+-- Private to tacho_days: Daily rests, judged one by one as they end (Regulation (EC) No 561/2006, Articles 4(g), 8(2) and 8(4)).
 use Rattle.std.specs.Prelude.{ℕ, ◌+◌, ◌-◌, ◌++◌, ◌&&◌, ◌||◌, not, nat_le, nat_lt, min, Bool, false}
 use Rattle.std.specs.Prelude.{if◌then◌else◌, Option, None, Some, List, []}
 use Rattle.tacho_law.specs.declared.run.Run.{Run}

@@ -13,7 +13,7 @@ use tacho_law::{Breach, FAR, Kind, Run};
 use tacho_pass::{Count, Found, Judge, is_drive, put};
 use tacho_time::{Minute, Span, week_of};
 
-/// The driving of the open duty day, and the extended days of a week before it (Article 6(1) of Regulation (EC) 561/2006).
+/// The driving of the open duty day, and the extended days of a week before it (Article 6(1) of Regulation (EC) No 561/2006).
 #[derive(Clone, Copy)]
 pub struct DutyDriving {
     /// The minute at which the day starts.

@@ -18,7 +18,7 @@ use tacho_law::{Breach, DutyDay, FAR, Kind, Run, has_portion};
 use tacho_pass::{Found, Judge, put};
 use tacho_time::{Minute, Span};
 
-/// The open duty day, and the reduced daily rests before it (Articles 8(2) and 8(4) of Regulation (EC) 561/2006).
+/// The open duty day, and the reduced daily rests before it (Articles 8(2) and 8(4) of Regulation (EC) No 561/2006).
 #[derive(Clone, Copy)]
 pub struct RestingDay {
     /// The minute at which the day starts: the end of the last daily rest.
@@ -57,7 +57,7 @@ impl RestingDay {
     }
 
     /// Returns the breach of a daily rest with fewer than nine hours within the 24 hours from the day's start (Article 8(2) of Regulation
-    /// (EC) 561/2006).
+    /// (EC) No 561/2006).
     fn short_rest(&self, rest: Run) -> Option<Breach>
         requires start { rest.start ≤ latest }
         requires enough { daily_rest ≤ minutes_of rest }

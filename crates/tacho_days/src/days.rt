@@ -19,7 +19,7 @@ pub struct DayRules {
     pub daily_driving: DutyDriving,
 }
 
-/// The rules on days: daily rests, and driving in a day (Articles 6(1), 8(2) and 8(4) of Regulation (EC) 561/2006).
+/// The rules on days: daily rests, and driving in a day (Articles 6(1), 8(2) and 8(4) of Regulation (EC) No 561/2006).
 pub type Days = Hearing<DayRules>;
 
 impl Judge for DayRules {

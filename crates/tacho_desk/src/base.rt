@@ -2,7 +2,7 @@ use std::marker::Model;
 use tacho_time::{Day, TimeFault};
 
 /// A day that may be a driver's base: from 2000-01-03 to 2099-12-31.
-#[derive(Clone, Copy, Debug, PartialEq, Eq)]
+#[derive(Clone, Copy)]
 pub struct BaseDay {
     day: Day,
 }

@@ -14,7 +14,7 @@ use tacho_state::{Caller, Keeper};
 use tacho_time::Month;
 
 /// What is to be done at an archive, with its arguments read.
-#[derive(Clone, Copy, Debug, PartialEq, Eq)]
+#[derive(Clone, Copy)]
 pub enum Task {
     /// Adds a driver, given as CSV.
     Register,

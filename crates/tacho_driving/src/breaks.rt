@@ -104,7 +104,7 @@ impl Period {
     }
 }
 
-/// The pass that finds driving without a break (Article 7 of Regulation (EC) 561/2006).
+/// The pass that finds driving without a break (Article 7 of Regulation (EC) No 561/2006).
 pub type Breaks = Hearing<Period>;
 
 impl Judge for Period {

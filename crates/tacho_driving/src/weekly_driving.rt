@@ -145,7 +145,7 @@ fn put_breaches(sums: &Sums, found: &mut Found) -> Result<(), AllocError>
     Ok(())
 }
 
-/// The pass that finds too much driving in one week and in two (Article 6(2) and (3) of Regulation (EC) 561/2006).
+/// The pass that finds too much driving in one week and in two (Article 6(2) and (3) of Regulation (EC) No 561/2006).
 pub type WeekSums = Hearing<Sums>;
 
 impl Judge for Sums {

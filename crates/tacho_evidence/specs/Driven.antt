@@ -1,4 +1,4 @@
--- Trusted: Driving spans, and what their running totals say of too much driving (Regulation (EC) 561/2006, Articles 4(j), 6 and 7).
+-- Trusted: Driving spans, and what their running totals say of too much driving (Regulation (EC) No 561/2006, Articles 4(j), 6 and 7).
 use Rattle.std.specs.Prelude.{◌≡◌, ◌≢◌, ◌⊎◌, ℕ, ◌+◌, ◌<◌, ◌≤◌, List, [], ◌∷◌, ◌++◌}
 use Rattle.tacho_time.specs.declared.span.Activity.TheVariants.{Drive}
 use Rattle.tacho_law.specs.declared.run.Run.{Run}

@@ -7,7 +7,7 @@ use tacho_law::Run;
 use tacho_time::{Activity, Span};
 
 /// A driving span, and the driving from the beginning of its range to its end.
-#[derive(Clone, Copy, Debug, PartialEq, Eq)]
+#[derive(Clone, Copy)]
 pub struct DrivenSpan {
     pub run: Run,
     /// In minutes.

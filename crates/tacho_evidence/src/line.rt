@@ -2,7 +2,7 @@ use crate::driven::DrivenSpan;
 use tacho_law::Run;
 
 /// A line of the evidence for a breach. A moment is its minute, a day or a week its first minute, and a length is in minutes.
-#[derive(Clone, Copy, Debug, PartialEq, Eq)]
+#[derive(Clone, Copy)]
 pub enum EvidenceLine {
     /// A complete break.
     Break(Run),

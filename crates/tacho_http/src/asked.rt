@@ -7,7 +7,7 @@ use tacho_message::{Method, Status};
 use tacho_state::Caller;
 
 /// What is asked for, with the arguments in the path.
-#[derive(Clone, Copy, Debug)]
+#[derive(Clone, Copy)]
 pub(crate) struct Asked<'p> {
     pub want: Want,
     pub driver: &'p str,

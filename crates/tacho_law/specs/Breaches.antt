@@ -1,4 +1,4 @@
--- Trusted in part: The breaches of Regulation (EC) 561/2006, Articles 6, 7 and 8 (8(6) and 8(6b) as amended by (EU) 2020/1054), one
+-- Trusted in part: The breaches of Regulation (EC) No 561/2006, Articles 6, 7 and 8 (8(6) and 8(6b) as amended by (EU) 2020/1054), one
 -- definition for each kind.
 use Rattle.std.specs.Prelude.{◌≡◌, ℕ, ◌+◌, ◌-◌, ◌<◌, ◌≤◌, List, Contains, min, None}
 use Rattle.tacho_law.specs.declared.run.Run.{Run}

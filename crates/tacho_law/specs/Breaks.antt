@@ -1,5 +1,5 @@
--- Trusted: Breaks (Regulation (EC) 561/2006, Articles 4(d) and 7): after a driving period of four and a half hours, an uninterrupted break
--- of 45 minutes, or a break of 15 minutes followed by one of 30.
+-- Trusted: Breaks (Regulation (EC) No 561/2006, Articles 4(d) and 7): after a driving period of four and a half hours, an uninterrupted
+-- break of 45 minutes, or a break of 15 minutes followed by one of 30.
 use Rattle.std.specs.Prelude.{◌≤◌, ◌⊎◌, List, Contains}
 use Rattle.tacho_law.specs.declared.run.Run.{Run}
 use Rattle.tacho_law.specs.Exactly.{AreExactly}

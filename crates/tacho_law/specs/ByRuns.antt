@@ -1,4 +1,4 @@
--- Trusted in part: Compensation paid run by run, in order of time (Regulation (EC) 561/2006, Article 8(6b) and 8(7), as amended by
+-- Trusted in part: Compensation paid run by run, in order of time (Regulation (EC) No 561/2006, Article 8(6b) and 8(7), as amended by
 -- (EU) 2020/1054): another way to find the payers of the definition in Debts.
 use Rattle.std.specs.Prelude.{◌≡◌, ℕ, ◌<◌, ◌⊎◌, List, [], ◌∷◌, ◌++◌, All, Option, None, Some}
 use Rattle.tacho_law.specs.declared.run.Run.{Run}

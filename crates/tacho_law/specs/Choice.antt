@@ -1,5 +1,5 @@
--- Trusted: The week in which each weekly rest is counted, and the rests that two neighbouring weeks need (Regulation (EC) 561/2006, Article
--- 8(6), first subparagraph, as amended by (EU) 2020/1054, and Article 8(9)).
+-- Trusted: The week in which each weekly rest is counted, and the rests that two neighbouring weeks need (Regulation (EC) No 561/2006,
+-- Article 8(6), first subparagraph, as amended by (EU) 2020/1054, and Article 8(9)).
 use Rattle.std.specs.Prelude.{◌≡◌, ◌≢◌, ℕ, ◌+◌, ◌≤◌, ◌⊎◌}
 use Rattle.tacho_law.specs.declared.run.Run.{Run}
 use Rattle.tacho_law.specs.Line.{Line}

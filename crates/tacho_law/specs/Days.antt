@@ -1,4 +1,4 @@
--- Trusted in part: Duty days and their daily rests (Regulation (EC) 561/2006, Articles 4(g), 4(k), 8(2) and 8(4)).
+-- Trusted in part: Duty days and their daily rests (Regulation (EC) No 561/2006, Articles 4(g), 4(k), 8(2) and 8(4)).
 use Rattle.std.specs.Prelude.{◌≡◌, ℕ, ◌+◌, ◌<◌, ◌≤◌, ◌⊎◌, List, Contains, min}
 use Rattle.tacho_law.specs.declared.run.Run.{Run}
 use Rattle.tacho_law.specs.declared.days.DutyDay.{DutyDay}

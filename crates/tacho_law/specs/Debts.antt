@@ -1,4 +1,4 @@
--- Trusted: Reduced weekly rests and their compensation (Regulation (EC) 561/2006, Articles 4(h), 8(6), 8(6b) and 8(7); 8(6) and 8(6b) as
+-- Trusted: Reduced weekly rests and their compensation (Regulation (EC) No 561/2006, Articles 4(h), 8(6), 8(6b) and 8(7); 8(6) and 8(6b) as
 -- amended by (EU) 2020/1054).
 use Rattle.std.specs.Prelude.{◌≡◌, ℕ, ◌+◌, ◌-◌, ◌<◌, ◌≤◌, ◌↔◌, List, Contains, AllPairs, min}
 use Rattle.std.specs.Prelude.{sum_by, take, Some, slice_get, MatchOption, if◌then◌else◌, nat_eq}

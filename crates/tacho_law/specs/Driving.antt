@@ -1,4 +1,4 @@
--- Trusted: Driving time (Regulation (EC) 561/2006, Articles 4(j) and 4(l)), counted in minutes.
+-- Trusted: Driving time (Regulation (EC) No 561/2006, Articles 4(j) and 4(l)), counted in minutes.
 use Rattle.std.specs.Prelude.{◌≡◌, ℕ, ◌+◌, ◌<◌, ◌≤◌, ◌&&◌, Bool, true, false, nat_le, if◌then◌else◌}
 use Rattle.std.proofs.Common.{zero, suc}
 use Rattle.tacho_time.specs.declared.span.Activity.{Activity}

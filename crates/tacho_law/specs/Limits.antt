@@ -1,5 +1,5 @@
--- Trusted: The numbers of Regulation (EC) 561/2006 (8(6) and 8(6b) as amended by (EU) 2020/1054), each with its Article, in minutes unless
--- another unit is named.
+-- Trusted: The numbers of Regulation (EC) No 561/2006 (8(6) and 8(6b) as amended by (EU) 2020/1054), each with its Article, in minutes
+-- unless another unit is named.
 use Rattle.std.specs.Prelude.{ℕ}
 
 -- Article 7: a break of 45 minutes; or a first part of 15, and then one of 30

@@ -1,4 +1,4 @@
--- Trusted: What is examined: an activity for each minute, from a Monday on (Regulation (EC) 561/2006, Article 4(i)).
+-- Trusted: What is examined: an activity for each minute, from a Monday on (Regulation (EC) No 561/2006, Article 4(i)).
 use Rattle.std.specs.Prelude.{◌≡◌, ℕ, ◌+◌, ◌*◌, ◌<◌, ◌≤◌, ◌&&◌, List, []}
 use Rattle.std.specs.Prelude.{◌∷◌, nat_lt, nat_le, if◌then◌else◌, All, false}
 use Rattle.tacho_time.specs.declared.span.Activity.{Activity}

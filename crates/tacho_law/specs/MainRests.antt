@@ -1,4 +1,4 @@
--- Private to tacho_law: What a rest keeps of its minutes (Regulation (EC) 561/2006, Articles 4(h), 8(6b) and 8(7); 8(6b) as amended by
+-- Private to tacho_law: What a rest keeps of its minutes (Regulation (EC) No 561/2006, Articles 4(h), 8(6b) and 8(7); 8(6b) as amended by
 -- (EU) 2020/1054).
 use Rattle.std.specs.Prelude.{◌≡◌, ℕ, ◌⊎◌}
 use Rattle.tacho_law.specs.declared.run.Run.{Run}

@@ -1,4 +1,4 @@
--- Trusted in part: Runs of rest (Regulation (EC) 561/2006, Articles 4(d), 4(f), 4(g) and 4(h)).
+-- Trusted in part: Runs of rest (Regulation (EC) No 561/2006, Articles 4(d), 4(f), 4(g) and 4(h)).
 use Rattle.std.specs.Prelude.{◌≡◌, ◌≢◌, ℕ, ◌+◌, ◌-◌, ◌<◌, ◌≤◌, ◌⊎◌, List, All, AllPairs}
 use Rattle.tacho_time.specs.declared.span.Activity.TheVariants.{Rest}
 use Rattle.tacho_law.specs.declared.run.Run.{Run}

@@ -1,4 +1,4 @@
--- Trusted: Weeks and weekly rests (Regulation (EC) 561/2006, Articles 4(h) and 4(i)).
+-- Trusted: Weeks and weekly rests (Regulation (EC) No 561/2006, Articles 4(h) and 4(i)).
 use Rattle.std.specs.Prelude.{◌≡◌, ℕ, ◌+◌, ◌*◌, ◌<◌, ◌≤◌}
 use Rattle.tacho_time.specs.declared.span.Activity.TheVariants.{Rest}
 use Rattle.tacho_law.specs.declared.run.Run.{Run}

@@ -1,6 +1,6 @@
 use tacho_time::Minute;
 
-/// The rule of Regulation (EC) 561/2006 that is broken.
+/// The rule of Regulation (EC) No 561/2006 that is broken.
 #[derive(Clone, Copy, Debug, PartialEq, Eq)]
 pub enum Kind {
     /// Article 7: more than four and a half hours of driving without a break.

@@ -1,4 +1,4 @@
-//! The numbers of Regulation (EC) 561/2006 (8(6) and 8(6b) as amended by (EU) 2020/1054), in minutes unless another unit is named.
+//! The numbers of Regulation (EC) No 561/2006 (8(6) and 8(6b) as amended by (EU) 2020/1054), in minutes unless another unit is named.
 
 /// A whole break (Article 7).
 pub const WHOLE_BREAK: u32 = 45;

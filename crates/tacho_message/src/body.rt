@@ -6,7 +6,7 @@ use std::alloc::{AllocError, Global};
 use tacho_time::{Failed, Source};
 
 /// Why a body was not read.
-#[derive(Clone, Copy, Debug, PartialEq, Eq)]
+#[derive(Clone, Copy)]
 pub enum BodyFault {
     /// The input ended before the end of the body.
     Ended,

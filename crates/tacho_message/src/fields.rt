@@ -7,7 +7,7 @@ ghost use Rattle.tacho_message.specs.Fields.{values_under, same_name, AreValues,
 use httparse::spans::HeaderSpan;
 
 /// The values of the fields with one name.
-#[derive(Clone, Copy, Debug)]
+#[derive(Clone, Copy)]
 pub enum Values<'b> {
     /// There is no such field.
     None,

@@ -8,7 +8,7 @@ use httparse::spans::{HeaderSpan, RequestSpans, parse_request};
 use tacho_time::{Failed, Source};
 
 /// Why an input has no head.
-#[derive(Clone, Copy, Debug, PartialEq, Eq)]
+#[derive(Clone, Copy)]
 pub enum HeadFault {
     /// 400: the input ended before the end of a head, or no continuation is a head.
     Bad,
@@ -29,7 +29,7 @@ impl From<Failed> for HeadFault {
 }
 
 /// What the bytes so far are.
-#[derive(Clone, Copy, Debug)]
+#[derive(Clone, Copy)]
 enum Look {
     /// A head, and possibly bytes after it.
     Complete(RequestSpans),
@@ -54,7 +54,7 @@ fn look_at(bytes: &[u8], fields: &mut [HeaderSpan]) -> Look
 }
 
 /// Where the parts of a request's head are in a buffer.
-#[derive(Clone, Copy, Debug)]
+#[derive(Clone, Copy)]
 pub struct Head {
     /// Method, target, version and fields.
     pub spans: RequestSpans,

@@ -1,5 +1,5 @@
 /// The methods that are answered.
-#[derive(Clone, Copy, Debug, PartialEq, Eq)]
+#[derive(Clone, Copy)]
 pub enum Method {
     Get,
     Post,

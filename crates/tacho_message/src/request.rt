@@ -9,7 +9,7 @@ use crate::fields::{Values, values_of};
 use httparse::spans::{HeaderSpan, RequestSpans};
 
 /// The parts of a request's head, and the bytes that came after it.
-#[derive(Clone, Copy, Debug)]
+#[derive(Clone, Copy)]
 pub struct Request<'b> {
     pub method: &'b [u8],
     /// The target as it was sent: nothing in it is decoded.

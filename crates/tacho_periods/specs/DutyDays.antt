@@ -1,4 +1,4 @@
--- Private to tacho_periods: The duty days between the rest runs of a line (Regulation (EC) 561/2006, Article 8).
+-- Private to tacho_periods: The duty days between the rest runs of a line (Regulation (EC) No 561/2006, Article 8).
 use Rattle.std.specs.Prelude.{List}
 use Rattle.tacho_law.specs.declared.days.DutyDay.{DutyDay}
 use Rattle.tacho_law.specs.Line.{Line}

@@ -1,5 +1,5 @@
--- Private to tacho_periods: Which rest is the main rest of its week (Regulation (EC) 561/2006, Articles 4(h) and 8(6b), as amended by (EU)
--- 2020/1054).
+-- Private to tacho_periods: Which rest is the main rest of its week (Regulation (EC) No 561/2006, Articles 4(h) and 8(6b), as amended by
+-- (EU) 2020/1054).
 use Rattle.std.specs.Prelude.{◌≡◌, ℕ, ◌<◌, ◌⊎◌}
 use Rattle.tacho_law.specs.declared.run.Run.{Run}
 use Rattle.tacho_law.specs.Debts.{minutes_before}

@@ -14,7 +14,7 @@ fn completes(minutes: u32, has_first_part: bool) -> bool
     minutes >= WHOLE_BREAK || (minutes >= LAST_PART_OF_BREAK && has_first_part)
 }
 
-/// Returns the complete breaks among rest runs, in order of time: 45 minutes, or 15 and then 30 (Article 7 of Regulation (EC) 561/2006).
+/// Returns the complete breaks among rest runs, in order of time: 45 minutes, or 15 and then 30 (Article 7 of Regulation (EC) No 561/2006).
 pub fn complete_breaks(alloc: Global, runs: &[Run]) -> Result<Vec<Run>, AllocError>
     requires { AreRuns runs.now }
     ensures { IfOk result (λ breaks. AreCompleteBreaks runs.now breaks.items) }

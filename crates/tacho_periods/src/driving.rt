@@ -68,7 +68,7 @@ pub fn driving_minute(examined: &Examined<'_>, from: u32, to: u32, k: u32) -> Op
 }
 
 /// More driving than a limit.
-#[derive(Clone, Copy, Debug, PartialEq, Eq)]
+#[derive(Clone, Copy)]
 pub struct Excess {
     /// The first driving minute above the limit.
     pub moment: Minute,
@@ -76,7 +76,7 @@ pub struct Excess {
     pub amount: u32,
 }
 
-/// Returns the driving from `from` to before `to` above a limit in minutes, if there is more (Articles 6 and 7 of Regulation (EC)
+/// Returns the driving from `from` to before `to` above a limit in minutes, if there is more (Articles 6 and 7 of Regulation (EC) No
 /// 561/2006).
 pub fn excess_between(examined: &Examined<'_>, from: u32, to: u32, limit: u32) -> Option<Excess>
     requires { IsExamined examined.now.spans.now examined.now.base examined.now.past }

@@ -7,7 +7,7 @@ use std::alloc::{AllocError, Global};
 use tacho_law::limits::DAILY_REST;
 use tacho_law::{DutyDay, Run};
 
-/// Returns the rest runs of at least `least` minutes, in order of time (Article 4(g) and (h) of Regulation (EC) 561/2006).
+/// Returns the rest runs of at least `least` minutes, in order of time (Article 4(g) and (h) of Regulation (EC) No 561/2006).
 pub fn long_rests(alloc: Global, runs: &[Run], least: u32) -> Result<Vec<Run>, AllocError>
     requires { AreRuns runs.now }
     ensures { IfOk result (λ rests. (line : Line) → AreRestRuns line runs.now → AreRestsOf line least rests.items) }
@@ -21,7 +21,7 @@ pub fn long_rests(alloc: Global, runs: &[Run], least: u32) -> Result<Vec<Run>, A
     Ok(rests)
 }
 
-/// Returns the duty days between rest runs, in order of time (Article 8 of Regulation (EC) 561/2006).
+/// Returns the duty days between rest runs, in order of time (Article 8 of Regulation (EC) No 561/2006).
 pub fn duty_days(alloc: Global, runs: &[Run]) -> Result<Vec<DutyDay>, AllocError>
     requires { AreRuns runs.now }
     ensures { IfOk result (λ days. (line : Line) → AreRestRuns line runs.now → AreDutyDays line days.items) }

@@ -16,7 +16,7 @@ fn has_run_between(runs: &[Run], from: u32, to: u32) -> bool
     first < runs.len() && runs[first].past <= to
 }
 
-/// True if the daily rest of a duty day is regular (Article 4(g) of Regulation (EC) 561/2006). `parts` are the rests of three hours or
+/// True if the daily rest of a duty day is regular (Article 4(g) of Regulation (EC) No 561/2006). `parts` are the rests of three hours or
 /// more.
 pub fn is_regular(day: DutyDay, parts: &[Run]) -> bool
     requires started { day.start ≤ greatest_minute }
@@ -28,7 +28,7 @@ pub fn is_regular(day: DutyDay, parts: &[Run]) -> bool
         || (has_portion(day, DAILY_REST) && has_run_between(parts, day.start, day.past))
 }
 
-/// True if the daily rest of a duty day is reduced (Article 4(g) and Article 8(4) of Regulation (EC) 561/2006). `parts` are the rests of
+/// True if the daily rest of a duty day is reduced (Article 4(g) and Article 8(4) of Regulation (EC) No 561/2006). `parts` are the rests of
 /// three hours or more.
 pub fn is_reduced(day: DutyDay, parts: &[Run]) -> bool
     requires started { day.start ≤ greatest_minute }

@@ -1,4 +1,4 @@
--- Private to tacho_plain: Terms of the pass over driving periods (Regulation (EC) 561/2006, Articles 4(q) and 7).
+-- Private to tacho_plain: Terms of the pass over driving periods (Regulation (EC) No 561/2006, Articles 4(q) and 7).
 use Rattle.std.specs.Prelude.{◌≡◌, ℕ}
 use Rattle.tacho_law.specs.declared.breach.Breach.{Breach}
 use Rattle.tacho_law.specs.declared.breach.Kind.TheVariants.{B1}

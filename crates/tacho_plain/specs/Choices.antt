@@ -1,4 +1,4 @@
--- Private to tacho_plain: The weeks for which all choices of a week for each weekly rest are tried (Regulation (EC) 561/2006, Articles
+-- Private to tacho_plain: The weeks for which all choices of a week for each weekly rest are tried (Regulation (EC) No 561/2006, Articles
 -- 8(6), first subparagraph, and 8(9)).
 use Rattle.std.specs.Prelude.{ℕ, ◌+◌, ◌<◌, ◌≤◌, List, length, slice_index_or}
 use Rattle.tacho_law.specs.Line.{Line}

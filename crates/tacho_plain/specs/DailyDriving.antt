@@ -1,4 +1,4 @@
--- Private to tacho_plain: Terms of the rules on a day's driving (Regulation (EC) 561/2006, Article 6(1)).
+-- Private to tacho_plain: Terms of the rules on a day's driving (Regulation (EC) No 561/2006, Article 6(1)).
 use Rattle.std.specs.Prelude.{ℕ, ◌<◌}
 use Rattle.tacho_law.specs.declared.days.DutyDay.{DutyDay}
 use Rattle.tacho_law.specs.declared.breach.Breach.{Breach}

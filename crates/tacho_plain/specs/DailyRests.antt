@@ -1,4 +1,4 @@
--- Private to tacho_plain: Terms of the rules on daily rests (Regulation (EC) 561/2006, Articles 8(2) and 8(4)).
+-- Private to tacho_plain: Terms of the rules on daily rests (Regulation (EC) No 561/2006, Articles 8(2) and 8(4)).
 use Rattle.std.specs.Prelude.{◌≡◌, ℕ, ◌+◌, ◌-◌, ◌≤◌, List, Contains, min}
 use Rattle.tacho_law.specs.declared.run.Run.{Run}
 use Rattle.tacho_law.specs.declared.days.DutyDay.{DutyDay}

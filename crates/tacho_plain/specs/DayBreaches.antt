@@ -1,5 +1,5 @@
--- Private to tacho_plain: Terms of the pass over duty days: breaches of daily rests (Regulation (EC) 561/2006, Articles 8(2) and 8(4)) and
--- of a day's driving (Article 6(1)).
+-- Private to tacho_plain: Terms of the pass over duty days: breaches of daily rests (Regulation (EC) No 561/2006, Articles 8(2) and 8(4))
+-- and of a day's driving (Article 6(1)).
 use Rattle.std.specs.Prelude.{◌≡◌, ◌+◌, ◌<◌, ◌≤◌, ◌⊎◌, List}
 use Rattle.tacho_law.specs.declared.days.DutyDay.{DutyDay}
 use Rattle.tacho_law.specs.declared.breach.Breach.{Breach}

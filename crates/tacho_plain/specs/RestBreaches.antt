@@ -1,5 +1,5 @@
--- Private to tacho_plain: Terms of the pass over weekly rests (Regulation (EC) 561/2006, Articles 8(6b) and 8(7); 8(6b) as amended by (EU)
--- 2020/1054).
+-- Private to tacho_plain: Terms of the pass over weekly rests (Regulation (EC) No 561/2006, Articles 8(6b) and 8(7); 8(6b) as amended by
+-- (EU) 2020/1054).
 use Rattle.std.specs.Prelude.{◌≡◌, ℕ, ◌+◌, ◌≤◌}
 use Rattle.tacho_law.specs.declared.run.Run.{Run}
 use Rattle.tacho_law.specs.declared.run.TheConstants.{FAR}

@@ -1,5 +1,5 @@
--- Private to tacho_plain: Terms of the pass over weeks: driving in a week and in two neighbouring weeks (Regulation (EC) 561/2006, Articles
--- 6(2) and 6(3)).
+-- Private to tacho_plain: Terms of the pass over weeks: driving in a week and in two neighbouring weeks (Regulation (EC) No 561/2006,
+-- Articles 6(2) and 6(3)).
 use Rattle.std.specs.Prelude.{ℕ, ◌+◌, ◌<◌, ◌≤◌, ◌⊎◌, List}
 use Rattle.tacho_law.specs.declared.breach.Breach.{Breach}
 use Rattle.tacho_law.specs.declared.breach.Kind.TheVariants.{B6, B7}

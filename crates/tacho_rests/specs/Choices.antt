@@ -1,5 +1,5 @@
--- Private to tacho_rests: Choices of a week for each weekly rest, rest by rest and week by week (Regulation (EC) 561/2006, Articles 8(6),
--- first subparagraph, and 8(9)).
+-- Private to tacho_rests: Choices of a week for each weekly rest, rest by rest and week by week (Regulation (EC) No 561/2006, Articles
+-- 8(6), first subparagraph, and 8(9)).
 use Rattle.std.specs.Prelude.{◌≡◌, ℕ, ◌+◌, ◌-◌, ◌<◌, ◌≤◌, ◌⊎◌, ◌↔◌, ◌&&◌, not, Bool, true, false, List, [], ◌∷◌}
 use Rattle.std.specs.Prelude.{Option, None, Some, MatchOption}
 use Rattle.tacho_law.specs.declared.run.Run.{Run}

@@ -1,5 +1,5 @@
--- Private to tacho_rests: Choices of a week for each weekly rest (Regulation (EC) 561/2006, Articles 8(6), first subparagraph, and 8(9)),
--- span by span: the state of the rule, and what it represents.
+-- Private to tacho_rests: Choices of a week for each weekly rest (Regulation (EC) No 561/2006, Articles 8(6), first subparagraph, and
+-- 8(9)), span by span: the state of the rule, and what it represents.
 use Rattle.std.specs.Prelude.{◌≡◌, ℕ, ◌<◌, ◌≤◌, List, []}
 use Rattle.tacho_time.specs.declared.span.Span.{Span}
 use Rattle.tacho_law.specs.declared.run.Run.{Run}

@@ -1,4 +1,4 @@
--- Private to tacho_rests: Weekly rests that start late (Regulation (EC) 561/2006, Article 8(6), second subparagraph), rest by rest: the
+-- Private to tacho_rests: Weekly rests that start late (Regulation (EC) No 561/2006, Article 8(6), second subparagraph), rest by rest: the
 -- state of the rule, and what it represents.
 use Rattle.std.specs.Prelude.{◌≡◌, ℕ, ◌+◌, ◌-◌, ◌<◌, ◌≤◌, nat_lt, nat_le, List, [], Option, None, Some, MatchOption}
 use Rattle.std.specs.Prelude.{if◌then◌else◌}

@@ -1,4 +1,4 @@
--- Private to tacho_rests: Debts (Regulation (EC) 561/2006, Article 8(6b), as amended by (EU) 2020/1054), span by span: what a ledger of
+-- Private to tacho_rests: Debts (Regulation (EC) No 561/2006, Article 8(6b), as amended by (EU) 2020/1054), span by span: what a ledger of
 -- debts represents.
 use Rattle.std.specs.Prelude.{ℕ, ◌≤◌, List}
 use Rattle.tacho_time.specs.declared.span.Span.{Span}

@@ -1,4 +1,4 @@
--- Private to tacho_rests: What the rests of a week pay and owe, rest by rest (Regulation (EC) 561/2006, Articles 4(h), 8(6b) and 8(7);
+-- Private to tacho_rests: What the rests of a week pay and owe, rest by rest (Regulation (EC) No 561/2006, Articles 4(h), 8(6b) and 8(7);
 -- 8(6b) as amended by (EU) 2020/1054).
 use Rattle.std.specs.Prelude.{ℕ, ◌+◌, ◌-◌, ◌&&◌, Bool, true, false, nat_le, nat_lt, nat_eq, min, List, [], ◌∷◌, ◌++◌}
 use Rattle.std.specs.Prelude.{length, Option, None, Some, if◌then◌else◌}

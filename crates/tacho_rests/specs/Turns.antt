@@ -1,4 +1,4 @@
--- Private to tacho_rests: Debts, as the rests of a line come one at a time (Regulation (EC) 561/2006, Articles 4(h) and 8(6b); 8(6b) as
+-- Private to tacho_rests: Debts, as the rests of a line come one at a time (Regulation (EC) No 561/2006, Articles 4(h) and 8(6b); 8(6b) as
 -- amended by (EU) 2020/1054).
 use Rattle.std.specs.Prelude.{◌≡◌, ℕ, ◌+◌, ◌<◌, ◌≤◌, ◌↔◌, List, [], ◌++◌, Contains, AllPairs, Option, None, MatchOption}
 use Rattle.tacho_law.specs.declared.run.Run.{Run}

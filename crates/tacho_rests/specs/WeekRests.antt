@@ -1,5 +1,5 @@
--- Private to tacho_rests: What the pass over weekly rests finds (Regulation (EC) 561/2006, Articles 8(6), 8(6b) and 8(7); 8(6) and 8(6b) as
--- amended by (EU) 2020/1054).
+-- Private to tacho_rests: What the pass over weekly rests finds (Regulation (EC) No 561/2006, Articles 8(6), 8(6b) and 8(7); 8(6) and 8(6b)
+-- as amended by (EU) 2020/1054).
 use Rattle.std.specs.Prelude.{ℕ, List}
 use Rattle.tacho_time.specs.declared.span.Span.{Span}
 use Rattle.tacho_law.specs.declared.breach.Breach.{Breach}

@@ -160,7 +160,7 @@ impl Ledger {
     }
 }
 
-/// The rule that finds the debts, and the breaches of those that aren't paid in time (Article 8(6b) of Regulation (EC) 561/2006).
+/// The rule that finds the debts, and the breaches of those that aren't paid in time (Article 8(6b) of Regulation (EC) No 561/2006).
 impl Judge for Ledger {
     ghost use Rattle.std.specs.Prelude.{true};
     ghost use Rattle.tacho_pass.specs.Kinds.{is_b10};

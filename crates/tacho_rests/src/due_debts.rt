@@ -10,7 +10,8 @@ use tacho_law::{Breach, Debt, Kind};
 use tacho_pass::Found;
 use tacho_time::{Minute, first_minute};
 
-/// Returns the breach of a debt, if no rest pays it and its deadline is at or before a minute (Article 8(6b) of Regulation (EC) 561/2006).
+/// Returns the breach of a debt, if no rest pays it and its deadline is at or before a minute (Article 8(6b) of Regulation (EC) No
+/// 561/2006).
 fn breach_of(debt: &Debt, by: Minute) -> Option<Breach>
     ensures { result ≡ (if is_overdue by debt.now then Some (overdue_breach debt.now) else None) }
 {

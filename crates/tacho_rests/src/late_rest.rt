@@ -9,7 +9,7 @@ use tacho_law::{Breach, FAR, Kind, Run};
 use tacho_pass::{Found, Judge, put};
 use tacho_time::{Minute, Span};
 
-/// The end of the last weekly rest, after which the next one may start too late (Article 8(6) of Regulation (EC) 561/2006).
+/// The end of the last weekly rest, after which the next one may start too late (Article 8(6) of Regulation (EC) No 561/2006).
 #[derive(Clone, Copy)]
 pub struct Late {
     end: Option<Minute>,
@@ -59,7 +59,7 @@ fn breach_of(end: &Option<Minute>, run: Run) -> Option<Breach>
     }
 }
 
-/// The rule that finds weekly rests that start too late (Article 8(6) of Regulation (EC) 561/2006).
+/// The rule that finds weekly rests that start too late (Article 8(6) of Regulation (EC) No 561/2006).
 impl Judge for Late {
     ghost own = { is_b8 };
 

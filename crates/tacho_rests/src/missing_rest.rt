@@ -35,7 +35,7 @@ pub struct Choices {
 }
 
 /// Returns the breach for a week and the one before it, if no choice is valid up to the week (Articles 8(6), first subparagraph, and 8(9)
-/// of Regulation (EC) 561/2006).
+/// of Regulation (EC) No 561/2006).
 fn unserved(week: u32) -> Breach
     requires { week ≤ 6784 }
     ensures { result ≡ unserved_breach week }
@@ -211,7 +211,7 @@ impl Choices {
 }
 
 /// The rule that finds neighbouring weeks up to which no choice of a week for each weekly rest is valid (Articles 8(6), first subparagraph,
-/// and 8(9) of Regulation (EC) 561/2006).
+/// and 8(9) of Regulation (EC) No 561/2006).
 impl Judge for Choices {
     ghost use Rattle.std.specs.Prelude.{true, false};
     ghost use Rattle.tacho_pass.specs.Kinds.{is_b9};

@@ -22,7 +22,7 @@ pub struct RestRules {
     pub compensation: Ledger,
 }
 
-/// The rules on weekly rests (Articles 8(6), 8(6b) and 8(9) of Regulation (EC) 561/2006).
+/// The rules on weekly rests (Articles 8(6), 8(6b) and 8(9) of Regulation (EC) No 561/2006).
 pub type WeekRests = Hearing<RestRules>;
 
 impl Judge for RestRules {

@@ -1,5 +1,5 @@
--- Trusted: The report of what is held, from a base on: the breaches and debts by Articles 6, 7 and 8 of Regulation (EC) 561/2006, and where
--- the examination ends.
+-- Trusted: The report of what is held, from a base on: the breaches and debts by Articles 6, 7 and 8 of Regulation (EC) No 561/2006, and
+-- where the examination ends.
 use Rattle.std.specs.Prelude.{ℕ, ◌&&◌, nat_le, nat_lt, if◌then◌else◌, List}
 use Rattle.std.specs.Option.{option_map_or}
 use Rattle.tacho_time.specs.declared.span.Activity.TheVariants.{Rest}

@@ -26,7 +26,7 @@ pub fn can_be_examined(line: &Line, base: Minute) -> bool
 }
 
 /// Returns the report of a timeline from a base, the first minute of a Monday, to its horizon: every breach of the rules on driving and
-/// rest hours (Articles 6, 7 and 8 of Regulation (EC) 561/2006) once, and every debt. Minutes are in UTC.
+/// rest hours (Articles 6, 7 and 8 of Regulation (EC) No 561/2006) once, and every debt. Minutes are in UTC.
 pub fn examine(alloc: Global, line: &Line, base: Minute) -> Result<Report, AllocError>
     requires monday { IsBase base }
     requires in_range { base ≤ latest }

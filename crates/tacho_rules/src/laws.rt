@@ -67,7 +67,7 @@ pub fn breaches_stay()
         → (same : BreachValue) × Contains others same × Agree breach same }
 {}
 
-/// `Breaks` finds driving without a break, B1 (Article 7 of Regulation (EC) 561/2006): each such breach once, and no
+/// `Breaks` finds driving without a break, B1 (Article 7 of Regulation (EC) No 561/2006): each such breach once, and no
 /// other. It finds no debts.
 pub fn breaks_as_defined()
     ensures own { (kind : KindValue) → ⟦<Breaks as Pass>⟧.own kind ≡ is_b1 kind }

@@ -18,7 +18,7 @@ use tacho_line::{Horizon, cut};
 use tacho_pass::{Found, Hearing, Pass, Plain};
 use tacho_time::{Minute, Span};
 
-/// All rules on driving and rest hours (Articles 6, 7 and 8 of Regulation (EC) 561/2006), over spans that come one at a time. A scan is
+/// All rules on driving and rest hours (Articles 6, 7 and 8 of Regulation (EC) No 561/2006), over spans that come one at a time. A scan is
 /// plain numbers and owns no memory. Its findings are added to a `Found`, which is empty at first and is passed to every call. Minutes are
 /// in UTC.
 #[derive(Clone, Copy)]

@@ -63,7 +63,7 @@ kind_code B8 = codes "B8"
 kind_code B9 = codes "B9"
 kind_code B10 = codes "B10"
 
--- the Article of Regulation (EC) 561/2006 that states the rule
+-- the Article of Regulation (EC) No 561/2006 that states the rule
 abbrev pub article : Kind → List ℕ
 article B1 = codes "Art 7"
 article B2 = codes "Art 8(2)"

@@ -21,7 +21,7 @@ use Rattle.tacho_law.specs.declared.breach.Kind.TheVariants.{B1, B2, B3, B4, B5,
 
 -- ---- breaches
 
--- the name of a rule, and the Article of Regulation (EC) 561/2006 that states it
+-- the name of a rule, and the Article of Regulation (EC) No 561/2006 that states it
 abbrev pub kind_name : Kind → List ℕ
 kind_name B1 = codes "B1 Art 7"
 kind_name B2 = codes "B2 Art 8(2)"

@@ -27,7 +27,7 @@ use tacho_tables::{SpanTable, StoredSpan, TableFault, downloads, drivers, openin
 use tacho_time::Span;
 
 /// The driver to whom an import belongs, and the count of their downloads.
-#[derive(Clone, Copy, Debug, PartialEq, Eq)]
+#[derive(Clone, Copy)]
 pub struct Importer {
     pub number: u32,
     pub downloads: u32,

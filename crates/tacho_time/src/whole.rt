@@ -9,7 +9,7 @@ use std::alloc::{AllocError, Global};
 const CHUNK: usize = 4096;
 
 /// Why an input couldn't be read.
-#[derive(Clone, Copy, Debug, PartialEq, Eq)]
+#[derive(Clone, Copy)]
 pub enum ReadFault {
     /// The input has more bytes than the limit.
     TooLarge,
