@@ -39,10 +39,10 @@ LARGE = 150
 # The seconds of processor time that each crate took in one process. They serve to find the longest chain of crates, and which crates are
 # large: a wrong number changes the order of the work and its speed, and nothing else.
 SECONDS = {
-    "tacho_time": 105, "tacho_card": 103, "tacho_line": 98, "tacho_law": 32, "tacho_pass": 40, "tacho_driving": 42, "tacho_days": 51,
-    "tacho_choice": 24, "tacho_rests": 75, "tacho_rules": 45, "tacho_stretches": 40, "tacho_state": 75, "tacho_sheet": 300,
-    "tacho_desk": 96, "tacho_tables": 187, "tacho_reading": 245, "tacho_store": 400, "tacho_check": 180, "tacho_message": 78,
-    "tacho_http": 92, "tacho_serve": 42, "tacho_cli": 125, "tacho": 340,
+    "tacho_time": 124, "tacho_card": 97, "tacho_line": 91, "tacho_law": 24, "tacho_pass": 24, "tacho_driving": 38, "tacho_days": 48,
+    "tacho_choice": 22, "tacho_rests": 79, "tacho_rules": 53, "tacho_stretches": 50, "tacho_periods": 54, "tacho_evidence": 141,
+    "tacho_state": 80, "tacho_sheet": 490, "tacho_desk": 180, "tacho_tables": 259, "tacho_reading": 290, "tacho_store": 510,
+    "tacho_check": 290, "tacho_message": 63, "tacho_http": 85, "tacho_serve": 45, "tacho_cli": 134, "tacho": 469,
 }
 
 # The seconds that are assumed for a crate without an entry in SECONDS.
