@@ -7,6 +7,7 @@ keeps its own end open until the reply has come whole, and ends its half before 
 program; with '--slow' in its place the slow server is compared with the rows, and no program is started.
 The last line is 'N passed, M failed'."""
 import contextlib
+import hashlib
 import http.client
 import io
 import os
@@ -22,17 +23,17 @@ from typing import Any
 
 from inputs import random_requests
 from lib import counting, pools, programs, seeds
-from lib.archive import of_tables
-from lib.files import DOCS
+from lib.archive import of_tables, rows_at
+from lib.files import DOCS, copied
 from lib.office import WITH_ANNA, Desk
 from lib.office_rows import (
-    ANNA, BERT, BREACH, CARD, DAY, DAY_OFF, DAY_OFF_LINE, EXAMINED, FREE_DAYS, FREE_LINE, GAPS, HOLDER, HOURS_HEAD, LARGEST_DAY,
-    LARGEST_HOURS, LIMIT, LONG_NOTE, MARCH, NO_AUTHOR, SATURDAY, SIGNED_HEAD, SPANS,
+    ANNA, BERT, BREACH, CARD, DAY, DAY_OFF, DAY_OFF_LINE, EXAMINED, FREE_DAYS, FREE_LINE, GAPS, HOLDER, HOURS_HEAD, INCIDENT_HEAD,
+    LARGEST_DAY, LARGEST_HOURS, LIMIT, LONG_NOTE, MARCH, NO_AUTHOR, OVERVIEW_HEAD, SATURDAY, SIGNED_HEAD, SPANS, UNSEEN,
 )
 from lib.server import (
-    ADDED, BAD, BAD_KEY, BAD_NUMBER, BREACHES, COUNTED, DRIVER, ENDED, FORBIDDEN, HOST, LARGE_HEAD, NO_DATE, NO_LENGTH, NO_PORT, NOT_FOUND,
-    OFFICE, OTHER_METHOD, OWN, REPEATED, STORED, TEXT, TOO_LARGE, Serving, asked_of, asking, free_port, line, of_asked, one_of, posting,
-    sent, server_after, told,
+    ADDED, BAD, BAD_KEY, BAD_NUMBER, BREACHES, COUNTED, CSV, DRIVER, ENDED, FORBIDDEN, HOST, LARGE_HEAD, NO_DATE, NO_LENGTH, NO_PORT,
+    NOT_FOUND, OFFICE, OTHER_METHOD, OWN, REPEATED, STORED, SVG, TEXT, TOO_LARGE, Serving, asked_of, asking, free_port, line, of_asked,
+    one_of, posting, sent, server_after, told,
 )
 from slow import slow_server
 
@@ -77,8 +78,131 @@ def padded(length, end=b"\r\n\r\n"):
     return FIRST + b"x-pad:" + (length - len(FIRST) - 6 - len(end)) * b"p" + end
 
 
-# In an archive that has Anna.
+# What can be read of Anna, who has a file, an entry, a breach and gaps, and of Bert, who has nothing: each end of a path, and the text
+# there.
+
+WITH_ENTRY = [*WITH_ANNA, (["import", "both"], DAY), (["enter", "17"], FREE_DAYS)]
+WITH_BOTH = [*WITH_ENTRY, (["register"], BERT)]
+OTHER_DRIVER = "bert-key-1"
+MONTH = "2024-03"
+
+
+def chart_of(number):
+    """The chart of a driver's month, which is too long for a row: that of the slow office."""
+    text, _ = server_after(WITH_BOTH).office.answer(["chart", number, MONTH])
+    return text
+
+
+SHOWN = "  break - 2024-03-04 08:00 -\n  drive 2024-03-04 08:30 2024-03-04 17:00 8:30 8:30\n  break 2024-03-04 17:00 - -\n"
+MISSING = b"2024-03-04 17:00,2024-03-05 00:00,,,\n2024-03-05 08:00,2024-03-09 00:00,,,\n"
+OF_ANNA = {
+    "stretches": f"FROM 2024-03-04\n{BREACH}{EXAMINED}{UNSEEN}",
+    "debts": f"FROM 2024-03-04\n{EXAMINED}{UNSEEN}",
+    "files": f"1 both 67 2024-03-04 00:00 2024-03-05 08:00 {hashlib.sha256(DAY).hexdigest()}\n",
+    "form": SIGNED_HEAD + MISSING,
+    f"why/{MONTH}": BREACH + SHOWN,
+    f"chart/{MONTH}": chart_of("17"),
+}
+NOTHING_EXAMINED = "FROM 2024-02-05\nEXAMINED TO 2024-02-05 00:00 unknown\n"
+OF_BERT = {
+    "stretches": NOTHING_EXAMINED,
+    "debts": NOTHING_EXAMINED,
+    "files": "",
+    "form": SIGNED_HEAD,
+    f"why/{MONTH}": "",
+    f"chart/{MONTH}": chart_of("18"),
+}
+WITH_NUMBER = [f"/drivers/17/{end}" for end in OF_ANNA]
+WITHOUT_NUMBER = [f"/me/{end}" for end in OF_ANNA]
+
+# What can be read of all drivers: each path, the text where there is no driver, Anna's line, and Bert's.
+OF_ALL = {
+    "/drivers": ("", f"17 {HOLDER} 2024-03-04 1 1 Anna Berg\n", f"18 {HOLDER[:-1]}4 2024-02-05 0 0 Bert\n"),
+    f"/overview/{MONTH}": (
+        OVERVIEW_HEAD,
+        "17,Anna Berg,3840,0,30,510,0,40260,1020,1,0,0,0,0,0,0,0,0,0\n",
+        "18,Bert,0,0,0,0,0,44640,0,0,0,0,0,0,0,0,0,0,0\n",
+    ),
+    f"/incidents/{MONTH}": (INCIDENT_HEAD, "17,Anna Berg,B1,Art 7,2024-03-04 13:00,2024-03-04 08:30,240\n", ""),
+}
+FOR_OFFICE = [*OF_ALL, *WITH_NUMBER]
+
+# The types of what isn't TEXT, by a part of its path.
+TYPES = {"/files/": STORED, "/chart/": SVG, "/form": CSV, "/overview/": CSV, "/incidents/": CSV}
+
+
+def type_of(path):
+    """The type of what can be read at a path."""
+    return next((kind for part, kind in TYPES.items() if part in path), TEXT)
+
+
+def read(path, key, text):
+    """A row of a text that can be read at a path."""
+    body = text if isinstance(text, bytes) else text.encode()
+    return row(f"GET {path}", key, told("200 OK", len(body), body, type_of(path)))
+
+
+def bad_months(path, key):
+    """The rows of a path's end with arguments that are no month, in the place of one."""
+    faults = {"2024-3": "Z1 not of the shape", "2024-13": "Z2 no such date", "1999-12": "Z3 out of range", "2100-01": "Z3 out of range"}
+    return [row(f"GET {path.replace(MONTH, text)}", key, line("400 Bad Request", len(fault) + 1, fault)) for text, fault in faults.items()]
+
+
+# In the archives of these rows there is no driver; in the others there is Anna.
+WITHOUT_DRIVERS = "no driver"
+
 ROWS = {
+    WITHOUT_DRIVERS: [
+        row("GET /drivers", OFFICE, told("200 OK", 0, "")),
+        *[read(path, OFFICE, head) for path, (head, *_) in OF_ALL.items()],
+        row("GET /drivers/17/stretches", OFFICE, line("404 Not Found", 18, "S4 unknown driver")),
+        row("GET /drivers", DRIVER, FORBIDDEN),
+    ],
+    "who may read what": [
+        WITH_DAY,
+        posted("/drivers/17/entries", OFFICE, FREE_DAYS, line("201 Created", 15, "entered 1 to 1")),
+        *[read(path, OFFICE, head + anna) for path, (head, anna, _) in OF_ALL.items()],
+        posted("/drivers", OFFICE, BERT, line("201 Created", 14, "registered 18")),
+        *[read(path, OFFICE, head + anna + bert) for path, (head, anna, bert) in OF_ALL.items()],
+        *[read(f"/drivers/17/{end}", OFFICE, text) for end, text in OF_ANNA.items()],
+        *[read(f"/drivers/18/{end}", OFFICE, text) for end, text in OF_BERT.items()],
+        *[read(f"/me/{end}", DRIVER, text) for end, text in OF_ANNA.items()],
+        *[read(f"/me/{end}", OTHER_DRIVER, text) for end, text in OF_BERT.items()],
+        *[row(f"GET {path}", key, FORBIDDEN) for path in WITHOUT_NUMBER for key in [OFFICE, "anna-key-2", None]],
+        *[row(f"GET {path}", key, FORBIDDEN) for path in FOR_OFFICE for key in [DRIVER, OTHER_DRIVER, "anna-key-2", None]],
+        *[row(f"GET {path}", OFFICE, FORBIDDEN, f"x-key: {DRIVER}") for path in [*FOR_OFFICE, *WITHOUT_NUMBER]],
+    ],
+    "other methods of what can be read": [
+        WITH_DAY,
+        *[row(f"{method} {path}", OFFICE, OTHER_METHOD) for path in FOR_OFFICE for method in ["HEAD", "PUT", "get"]],
+        *[row(f"POST {path}", OFFICE, OTHER_METHOD) for path in FOR_OFFICE if path != "/drivers"],
+        *[row(f"{method} {path}", DRIVER, OTHER_METHOD) for path in WITHOUT_NUMBER for method in ["POST", "HEAD", "DELETE"]],
+        *[row(f"POST {path}", OFFICE, OTHER_METHOD) for path in WITHOUT_NUMBER],
+        *[row(f"POST {path}", DRIVER, OTHER_METHOD) for path in WITH_NUMBER],
+        read("/drivers", OFFICE, f"17 {HOLDER} 2024-03-04 1 0 Anna Berg\n"),
+    ],
+    "paths near what can be read": [
+        *[row(f"GET {path}/", OFFICE, NOT_FOUND) for path in [*FOR_OFFICE, *WITHOUT_NUMBER]],
+        *[row(f"GET {path}?all", OFFICE, NOT_FOUND) for path in FOR_OFFICE if MONTH not in path],
+        *[row(f"GET {path.removesuffix(MONTH)}", OFFICE, NOT_FOUND) for path in FOR_OFFICE if MONTH in path],
+        *[row(f"GET {path.removesuffix(f'/{MONTH}')}", DRIVER, NOT_FOUND) for path in [*FOR_OFFICE, *WITHOUT_NUMBER] if MONTH in path],
+        *[row(f"GET {path.replace('17', '')}", OFFICE, NOT_FOUND) for path in WITH_NUMBER],
+        *[row(f"GET /me{path}", DRIVER, NOT_FOUND) for path in OF_ALL],
+        *[row(f"GET /drivers/17{path}", OFFICE, NOT_FOUND) for path in OF_ALL],
+        *[row(f"GET {path}/{MONTH}", OFFICE, NOT_FOUND) for path in ["/drivers/17/stretches", "/drivers/17/form", "/me/debts", "/me/form"]],
+        row("GET /me/files/1/1", DRIVER, NOT_FOUND),
+        row("GET /Overview/2024-03", OFFICE, NOT_FOUND),
+    ],
+    "words of what can be read": [
+        WITH_DAY,
+        *[row(f"GET {path.replace('17', text)}", OFFICE, BAD_NUMBER) for path in WITH_NUMBER for text in ["017", "0", "1000000", "%31%37"]],
+        *[row(f"GET {path.replace('17', '18')}", OFFICE, line("404 Not Found", 18, "S4 unknown driver")) for path in WITH_NUMBER],
+        *[bad for path in FOR_OFFICE if MONTH in path for bad in bad_months(path, OFFICE)],
+        *[bad for path in WITHOUT_NUMBER if MONTH in path for bad in bad_months(path, DRIVER)],
+        *[row(f"GET /drivers/0/{word}/2024-13", OFFICE, BAD_NUMBER) for word in ["why", "chart"]],
+        *[row(f"GET /drivers/18/{word}/2024-13", OFFICE, NO_DATE) for word in ["why", "chart"]],
+        *[row(f"GET /drivers/18/{word}/2024-13", DRIVER, FORBIDDEN) for word in ["why", "chart"]],
+    ],
     "a file twice": [
         posted("/cards/both", OFFICE, DAY, ADDED),
         posted("/cards/both", OFFICE, DAY, REPEATED),
@@ -194,7 +318,7 @@ ROWS = {
         row("GET /drivers/17/sheet/2024/03", OFFICE, NOT_FOUND),
         row("GET /nothing", DRIVER, NOT_FOUND),
         row("DELETE /drivers", DRIVER, OTHER_METHOD),
-        row("GET /drivers", DRIVER, OTHER_METHOD),
+        row("PUT /drivers", DRIVER, OTHER_METHOD),
         row("HEAD /me/owed", DRIVER, OTHER_METHOD),
         row("POST /me/owed", OFFICE, OTHER_METHOD),
         row("POST /me/entries", DRIVER, OTHER_METHOD, f"{COUNTED}0"),
@@ -292,7 +416,7 @@ ROWS = {
 
 # Each route once, by the client of Python's library: method, path, key and body, and the status, the phrase and the body of the reply.
 
-OWN_PATHS = {
+OF_ONE = {
     "spans/2024-03": SPANS,
     "gaps/2024-03": GAPS,
     "sheet/2024-03": MARCH,
@@ -302,13 +426,17 @@ OWN_PATHS = {
 }
 
 LIBRARY = [
+    *[("GET", path, OFFICE, None, 200, "OK", head) for path, (head, *_) in OF_ALL.items()],
     ("POST", "/drivers", OFFICE, ANNA, 201, "Created", "registered 17\n"),
     ("POST", "/cards/both", OFFICE, DAY, 201, "Created", "added driver 17 number 1\n"),
     ("POST", "/drivers/17/entries", OFFICE, FREE_DAYS, 201, "Created", "entered 1 to 1\n"),
+    *[("GET", path, OFFICE, None, 200, "OK", head + anna) for path, (head, anna, _) in OF_ALL.items()],
+    *[("GET", f"/drivers/17/{end}", OFFICE, None, 200, "OK", text) for end, text in OF_ANNA.items()],
+    *[("GET", f"/me/{end}", DRIVER, None, 200, "OK", text) for end, text in OF_ANNA.items()],
     ("POST", "/drivers/17/withdraw/1", OFFICE, None, 200, "OK", "withdrawn 1\n"),
     ("POST", "/drivers/17/base/2024-03-04", OFFICE, None, 200, "OK", "base 2024-03-04\n"),
-    *[("GET", f"/drivers/17/{path}", OFFICE, None, 200, "OK", text) for path, text in OWN_PATHS.items()],
-    *[("GET", f"/me/{path}", DRIVER, None, 200, "OK", text) for path, text in OWN_PATHS.items()],
+    *[("GET", f"/drivers/17/{path}", OFFICE, None, 200, "OK", text) for path, text in OF_ONE.items()],
+    *[("GET", f"/me/{path}", DRIVER, None, 200, "OK", text) for path, text in OF_ONE.items()],
     ("GET", "/drivers/17/files/1", OFFICE, None, 200, "OK", DAY),
     ("GET", "/me/files/1", DRIVER, None, 200, "OK", DAY),
     ("POST", "/me/cards/both", DRIVER, DAY, 200, "OK", "repeated driver 17\n"),
@@ -355,8 +483,7 @@ def by_library(connect, method, path, key, body):
 def wanted_by_library(path, status, phrase, text):
     """What it has to understand."""
     body = text if isinstance(text, bytes) else text.encode()
-    kind = STORED if "/files/" in path else TEXT
-    return status, phrase, [("content-type", kind), ("content-length", str(len(body))), ("connection", "close")], body
+    return status, phrase, [("content-type", type_of(path)), ("content-length", str(len(body))), ("connection", "close")], body
 
 
 # Comparisons
@@ -364,14 +491,33 @@ def wanted_by_library(path, status, phrase, text):
 
 def of_rows(program, name):
     """The comparisons of worked rows, and of the slow server with what they say."""
-    rows = ROWS[name]
-    server = server_after(WITH_ANNA)
+    rows, before = ROWS[name], [] if name == WITHOUT_DRIVERS else WITH_ANNA
+    server = server_after(before)
     asked = asked_of(server, [(row.name, row.request) for row in rows])
     for row, one in zip(rows, asked):
         yield f"{name}: {row.name}, by the slow server", one.replies, row.replies
     if program:
         right = [one._replace(replies=row.replies) for row, one in zip(rows, asked)]
-        yield from of_asked(program, name, WITH_ANNA, right, server)
+        yield from of_asked(program, name, before, right, server)
+
+
+def of_readings(program):
+    """The comparisons of an archive's tables after each GET of the office, of a driver and of nobody with those before all."""
+    paths = [(path, OFFICE) for path in [*FOR_OFFICE, *(f"/drivers/17/{end}" for end in [*OF_ONE, "files/1"])]]
+    paths += [(f"/me/{end}", key) for end in [*OF_ANNA, *OF_ONE, "files/1"] for key in [DRIVER, OTHER_DRIVER, "anna-key-2"]]
+    with tempfile.TemporaryDirectory() as folder:
+        desk = Desk(program, folder)
+        desk.prepare(WITH_BOTH)
+        aside, server = os.path.join(folder, "aside"), server_after(WITH_BOTH)
+        os.mkdir(aside)
+        before = rows_at(copied(desk.path, aside))
+        with Serving(program, desk.path, OFFICE, len(paths)) as serving:
+            for path, key in paths:
+                request = asking(f"GET {path}", key)
+                yield f"GET {path} with {key}", serving.ask([request], False), server.reply(request)
+                yield f"GET {path} with {key}: the tables", rows_at(copied(desk.path, aside)), before
+            yield "after each GET: the end", serving.end(), ENDED
+        yield of_tables("after each GET", desk.path, server.office.archive)
 
 
 def of_library(program):
@@ -396,6 +542,7 @@ def of_library(program):
 
 DOCUMENT = os.path.join(DOCS, "FORMATS.md")
 EXAMPLE = re.compile(r"^    \$ (curl .*)\n((?:    (?!\$ ).*\n|\n(?=    (?!\$ )))*)", re.MULTILINE)
+EXAMPLES = 22  # at the least
 FILES = {"@anna.csv": ANNA, "@anna.ddd": DAY, "@hours.csv": FREE_DAYS}
 BY_CURL = ["host: 127.0.0.1:8017", "user-agent: curl/8", "accept: */*"]
 BODY_BY_CURL = "content-type: application/x-www-form-urlencoded"
@@ -455,7 +602,7 @@ def of_document(program):
     asked = asked_of(server, [(command, request) for command, _, request, _ in found])
     for (command, printed, _, shown), one in zip(found, asked):
         yield command, as_shown(shown_of(one.replies[0], shown), printed), printed
-    yield "examples of the document", len(found) > len(slow_server.ROUTES), True
+    yield "examples of the document", len(found) >= EXAMPLES, True
     if program:
         yield from of_asked(program, "the document", [], asked, server)
 
@@ -530,7 +677,8 @@ def of_leaving(program):
     """The comparisons of an archive whose clients leave before a reply has come: the next one is served. Whether a file of one who
     left was taken can't be seen, so that it is sent again."""
     file = posting("/cards/both", OFFICE, DAY)
-    left = [b"", OWN[:20], OWN, asking("GET /drivers/17/sheet/2024-03", OFFICE), file[:-1], padded(60_000, b""), file]
+    left = [b"", OWN[:20], OWN, asking("GET /drivers/17/sheet/2024-03", OFFICE), asking("GET /drivers/17/chart/2024-03", OFFICE)]
+    left += [file[:-1], padded(60_000, b""), file]
     questions = [(request, is_broken) for request in left for is_broken in (False, True)]
     server = server_after([*WITH_ANNA, (["import", "both"], DAY)])
     with tempfile.TemporaryDirectory() as folder:
@@ -652,7 +800,7 @@ def comparisons(program: str) -> counting.Comparisons:
     questions: list[tuple[Any, ...]] = [(of_rows, started, name) for name in ROWS]
     questions += [(of_library, started), (of_document, started), (of_variety,)]
     if started:
-        questions += [(part, started) for part in [of_leaving, of_pieces, of_arguments, of_unlistened, of_listening]]
+        questions += [(part, started) for part in [of_readings, of_leaving, of_pieces, of_arguments, of_unlistened, of_listening]]
         questions += [(of_seed, started, seed) for seed in range(SEEDS)]
     yield from pools.of_questions(questions, PROCESSES)
 

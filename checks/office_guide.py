@@ -644,6 +644,14 @@ def keys(office):
         yield "a key that nobody knows", (re.fullmatch("[a-zA-Z0-9]{32}", other) is not None, f"{other}\n" == key), (True, False)
 
 
+def asked_month(office):
+    """A month by requests: what is printed and what is saved are what the commands print of the same archive."""
+    told = [office.told(*words.split()) for words in ("drivers", "stretches 17", "why 17 2024-03")]
+    yield office.typed("curl -H @office.head -o overview.csv", "".join(told))
+    for name, words in (("overview.csv", "overview 2024-03"), ("incidents.csv", "incidents 2024-03"), ("17.svg", "chart 17 2024-03")):
+        yield f"{name} of the service", office.read(name), office.told(*words.split())
+
+
 def services(office):
     """The service, by its unit: made, asked, backed up, and restored."""
     root = office.root
@@ -659,6 +667,7 @@ def services(office):
     yield office.typed("curl -s -o /dev/null", "403\n")
     yield "a command while it serves", office.type("/usr/local/bin/tacho entries /var/lib/tacho/archive.db 17"), ("S12 store failed\n", 3)
     yield office.typed("(umask 077; echo \"x-key:", "repeated driver 17\n")
+    yield from asked_month(office)
     names = list(DOWNLOADS)[:8]
     loop = next(block for block in office.left if block.startswith(FOLDER_LOOP))
     yield office.typed(FOLDER_LOOP, *folder_text(names))

@@ -36,6 +36,8 @@ STOPS = {"the disk stopped at": (None, 3), "the disk failed": (1, 1)}
 
 ENTRIES = asking("GET /drivers/17/entries", OFFICE)
 HELD = asking("GET /drivers/17/spans/2024-03", OFFICE)
+WHY = asking("GET /drivers/17/why/2024-03", OFFICE)
+OVERVIEW = asking("GET /overview/2024-03", OFFICE)
 REGISTER = posting("/drivers", OFFICE, BERT)
 IMPORT = posting("/cards/both", OFFICE, DAY)
 ENTER = posting("/drivers/17/entries", OFFICE, MORNING)
@@ -52,6 +54,7 @@ CASES = {
     "a withdrawal": (WITH_DAY, [WITHDRAW, HELD, SIGN]),
     "another base": (WITH_DAY, [REBASE, asking("GET /drivers/17/breaches", OFFICE), IMPORT]),
     "changes one after the other": (WITH_DAY, [ENTER, SIGN, WITHDRAW]),
+    "evidence, and all drivers": (WITH_DAY, [SIGN, WHY, OVERVIEW]),
 }
 
 

@@ -23,7 +23,8 @@ from lib import counting
 from lib.office import WITH_ANNA, Desk
 from lib.office_rows import DAY, LARGEST_DAY, LIMIT
 from lib.server import (
-    BREACHES, COUNTED, ENDED, FORBIDDEN, NO_PORT, OFFICE, OWN, REPEATED, STORED, TOO_LARGE, Serving, asking, posting, received, told,
+    BREACHES, COUNTED, ENDED, FORBIDDEN, NO_PORT, OFFICE, OWN, REPEATED, STORED, TOO_LARGE, Serving, asking, posting, received,
+    server_after, told,
 )
 
 # Between how many seconds the program may take. The system wakes a call that waits up to an eighth too late, and a busy machine later.
@@ -43,6 +44,8 @@ UNKNOWN_KEY = "anna-key-2"
 UNKNOWN = asking("GET /me/breaches", UNKNOWN_KEY)
 UNKNOWN_FRONT = posting("/drivers", UNKNOWN_KEY, PIECE)[: -len(PIECE)]
 FILE = asking("GET /drivers/17/files/1", OFFICE)
+CHART = asking("GET /drivers/17/chart/2024-03", OFFICE)
+WITH_DAY = [*WITH_ANNA, (["import", "both"], DAY)]
 UNREAD = 4_000_000  # bytes of a body that is refused by its length
 
 
@@ -301,6 +304,7 @@ def comparisons(program: str) -> counting.Comparisons:
         (of_slow, program, "a client that sends nothing", b"", LONGEST * [b""]),
         (of_slow, program, "a head byte by byte after an unknown key", UNKNOWN[:-2], pieces_of(PADDING.encode())),
         (of_answered, program, "a byte a second after a reply", OWN, BREACHES),
+        (of_answered, program, "a byte a second after a chart", CHART, server_after(WITH_DAY).reply(CHART)),
         (of_answered, program, "a body byte by byte after an unknown key", UNKNOWN_FRONT, FORBIDDEN),
         (of_silent, program, "a silent client", [None], AFTER_ONE),
         (of_silent, program, "silent clients that leave", MANY * [1], AFTER_MANY),

@@ -28,7 +28,17 @@ PATHS = {
     "owed": "/drivers/{0}/owed",
     "entries": "/drivers/{0}/entries",
     "file": "/drivers/{0}/files/{1}",
+    "stretches": "/drivers/{0}/stretches",
+    "debts": "/drivers/{0}/debts",
+    "files": "/drivers/{0}/files",
+    "form": "/drivers/{0}/form",
+    "why": "/drivers/{0}/why/{1}",
+    "chart": "/drivers/{0}/chart/{1}",
+    "drivers": "/drivers",
+    "overview": "/overview/{0}",
+    "incidents": "/incidents/{0}",
 }
+OF_ALL = ["drivers", "overview", "incidents"]
 WITH_INPUT = ["register", "import", "own", "enter"]
 WITHOUT_INPUT = ["withdraw", "base"]
 
@@ -57,6 +67,15 @@ OTHER_PATHS = [
     "/me/breaches/17",
     "/me/withdraw/1",
     "/me/cards/b\u00f6th",
+    "/drivers/17/files/",
+    "/drivers/17/why",
+    "/drivers/17/form/2024-03",
+    "/overview",
+    "/overview/2024-03/17",
+    "/incidents/",
+    "/me/chart/",
+    "/me/drivers",
+    "/me/overview/2024-03",
     "http://127.0.0.1/me/breaches",
 ]
 # Lengths that a request gives; '{}' is the body's own.
@@ -136,7 +155,7 @@ class Requests(office_lines.Lines):
         return (words, given) if words[0] in PATHS else self.command()
 
     def reading(self) -> Command:
-        """A reading that has a path: that of all drivers, `check` and `migrate` are the command line's alone."""
+        """A reading that has a path: `check` and `migrate` are the command line's alone."""
         words, given = super().reading()
         return (words, given) if words[0] in PATHS else self.reading()
 
@@ -158,10 +177,11 @@ class Requests(office_lines.Lines):
         return keys[0] if keys else self.any_key()
 
     def parts(self, words: Sequence[str], given: bytes) -> Parts:
-        """The parts of the request that asks for a command: of some readings that by the driver."""
+        """The parts of the request that asks for a command: of some readings of a driver that by them."""
         command, *others = words
         is_input = command in WITH_INPUT
-        is_own = command == "own" or command in office_lines.READINGS and self.chance.random() < 0.4
+        has_own = command in office_lines.READINGS and command not in OF_ALL
+        is_own = command == "own" or has_own and self.chance.random() < 0.4
         path = PATHS[command].replace("/drivers/{0}", "/me") if is_own else PATHS[command]
         fields = [("x-key", self.key_of(others[0]) if is_own else self.office_key)]
         if is_input or command in WITHOUT_INPUT and self.chance.random() < 0.5:

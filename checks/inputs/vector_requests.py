@@ -8,12 +8,18 @@ from lib.server import DRIVER, OFFICE, OWN, asking, posting
 from lib.vector_sets import Made, pieces_of
 
 ADD_ANNA = posting("/drivers", OFFICE, ANNA)
+ADD_BERT = posting("/drivers", OFFICE, BERT)
 ADD_DAY = posting("/cards/both", OFFICE, DAY)
 ADD_HOURS = posting("/drivers/17/entries", OFFICE, FREE_DAYS)
 SAME_HOLDER = BERT.replace(HOLDER[:-1].encode() + b"4", HOLDER.encode())
 OTHER_HOLDER = bytes.fromhex(CARD.replace(HOLDER, HOLDER[:-2] + "34") + "0504000010" + "00" * 16)
+OTHER_DRIVER = "bert-key-1"
 LENGTH = "content-length: "
 WITH_DAY = [ADD_ANNA, ADD_DAY]
+
+# What else can be read of a driver, and what of all.
+OF_ONE = ("stretches", "debts", "files", "form", "why/2024-03", "chart/2024-03")
+OF_ALL = ("/drivers", "/overview/2024-03", "/incidents/2024-03")
 
 
 def made(generator: str, status: int, what: str, requests: Iterable[bytes]) -> Made:
@@ -114,12 +120,12 @@ def keys() -> Iterator[Made]:
 
 def paths() -> Iterator[Made]:
     """Paths, methods and rights."""
-    for path in ("/", "*", "/me", "/drivers/", "/drivers/17", "//drivers", "/drivers//breaches", "/drivers/17/sheet/",
+    for path in ("/", "*", "/me/", "/drivers/", "/drivers/17/", "//drivers", "/drivers//breaches", "/drivers/17/sheet/",
                  "/drivers/17/breaches/", "/drivers/17/breaches?all", "/drivers/17/Breaches", "http://127.0.0.1/drivers/17/breaches",
                  "/drivers/17/sheet/2024/03", "/cards/both/both", "/nothing"):
         yield made("path", 404, f"the path '{path}' isn't one", [ADD_ANNA, asking(f"GET {path}", OFFICE)])
     for method, path, key in (
-        ("DELETE", "/drivers", OFFICE), ("GET", "/drivers", OFFICE), ("PUT", "/cards/both", OFFICE),
+        ("DELETE", "/drivers", OFFICE), ("PUT", "/drivers", OFFICE), ("PUT", "/cards/both", OFFICE),
         ("HEAD", "/me/owed", DRIVER), ("POST", "/me/owed", DRIVER), ("POST", "/me/entries", DRIVER),
         ("GET", "/me/cards/both", DRIVER),
         ("GET", "/drivers/17/withdraw/1", OFFICE), ("GET", "/drivers/17/base/2024-03-04", OFFICE),
@@ -133,6 +139,23 @@ def paths() -> Iterator[Made]:
     yield made("path", 403, "the office may not POST to '/me/cards/both'", [ADD_ANNA, posting("/me/cards/both", OFFICE, DAY)])
     for path in ("/me/withdraw/1", "/me/base/2024-03-11"):
         yield made("path", 404, f"a driver has no path '{path}'", [ADD_ANNA, posting(path, DRIVER, b"")])
+    for path in (*OF_ALL, *(f"/drivers/17/{what}" for what in OF_ONE)):
+        yield made("path", 403, f"a driver may not GET '{path}'", [ADD_ANNA, asking(f"GET {path}", DRIVER)])
+    for what in OF_ONE:
+        yield made("path", 403, f"the office may not GET '/me/{what}'", [ADD_ANNA, asking(f"GET /me/{what}", OFFICE)])
+    for method, path, key in (
+        ("HEAD", "/drivers", OFFICE), ("POST", "/drivers/17/stretches", OFFICE), ("PUT", "/drivers/17/debts", OFFICE),
+        ("POST", "/drivers/17/files", OFFICE), ("HEAD", "/drivers/17/form", OFFICE), ("POST", "/drivers/17/why/2024-03", DRIVER),
+        ("HEAD", "/drivers/17/chart/2024-03", OFFICE), ("POST", "/overview/2024-03", OFFICE), ("HEAD", "/incidents/2024-03", OFFICE),
+        ("HEAD", "/me/stretches", DRIVER), ("POST", "/me/debts", DRIVER), ("POST", "/me/files", DRIVER), ("POST", "/me/form", OFFICE),
+        ("HEAD", "/me/why/2024-03", DRIVER), ("POST", "/me/chart/2024-03", DRIVER),
+    ):
+        yield made("path", 405, f"the path '{path}' hasn't the method {method}", [ADD_ANNA, asking(f"{method} {path}", key)])
+    for path in ("/drivers/17/files/", "/drivers/17/form/2024-03", "/drivers/17/why", "/drivers/17/chart/", "/overview", "/incidents/",
+                 "/overview/2024-03/17"):
+        yield made("path", 404, f"the path '{path}' isn't one", [ADD_ANNA, asking(f"GET {path}", OFFICE)])
+    for path in ("/me/overview/2024-03", "/me/incidents/2024-03", "/me/stretches/2024-03", "/me/why"):
+        yield made("path", 404, f"a driver has no path '{path}'", [ADD_ANNA, asking(f"GET {path}", DRIVER)])
 
 
 def bodies() -> Iterator[Made]:
@@ -196,6 +219,14 @@ def arguments() -> Iterator[Made]:
         (422, "a base that isn't a Monday", asking("POST /drivers/17/base/2024-03-05", OFFICE)),
         (400, "a base before the days that are read", asking("POST /drivers/17/base/1999-12-27", OFFICE)),
         (404, "the largest number of a driver", asking("GET /drivers/999999/owed", OFFICE)),
+        *((400, f"a number with a zero in front, and then '{what}'", asking(f"GET /drivers/017/{what}", OFFICE)) for what in OF_ONE),
+        *((404, f"an unknown driver, and then '{what}'", asking(f"GET /drivers/18/{what}", OFFICE)) for what in OF_ONE),
+        (400, "month 13 of evidence, of an unknown driver", asking("GET /drivers/18/why/2024-13", OFFICE)),
+        (400, "a chart's month of another shape", asking("GET /me/chart/2024-3", DRIVER)),
+        (400, "evidence of a month of 2100", asking("GET /me/why/2100-01", DRIVER)),
+        (400, "month 0 of all drivers", asking("GET /overview/2024-00", OFFICE)),
+        (400, "a month of all drivers of another shape", asking("GET /incidents/2024", OFFICE)),
+        (400, "a month of all drivers of 1999", asking("GET /incidents/1999-12", OFFICE)),
     ]
     for status, what, request in rows:
         yield made("argument", status, what, [ADD_ANNA, request])
@@ -244,6 +275,15 @@ def done() -> Iterator[Made]:
                                               ("spans/2024-03", "gaps/2024-03", "sheet/2024-03", "breaches", "owed", "entries", "files/1")):
         yield made("done", 200, f"'{what}' is asked for by {'the office' if key == OFFICE else 'the driver'}",
                    [*whole, asking(f"GET {who}/{what}", key)])
+    for (who, key), what in itertools.product((("/drivers/17", OFFICE), ("/me", DRIVER)), OF_ONE):
+        yield made("done", 200, f"'{what}' is asked for by {'the office' if key == OFFICE else 'the driver'}",
+                   [*whole, asking(f"GET {who}/{what}", key)])
+    for path in OF_ALL:
+        yield made("done", 200, f"'{path}' is asked for of two drivers", [*whole, ADD_BERT, asking(f"GET {path}", OFFICE)])
+        yield made("done", 200, f"'{path}' is asked for where there is no driver", [asking(f"GET {path}", OFFICE)])
+    for what in OF_ONE:
+        yield made("done", 200, f"'{what}' is asked for by a driver who has nothing, beside one who has something",
+                   [*whole, ADD_BERT, asking(f"GET /me/{what}", OTHER_DRIVER)])
 
 
 def single_bytes() -> Iterator[Made]:

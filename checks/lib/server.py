@@ -28,6 +28,8 @@ OFFICE = "office-key-1"
 DRIVER = "anna-key-1"
 TEXT = "text/plain; charset=utf-8"
 STORED = "application/octet-stream"
+CSV = "text/csv; charset=utf-8"
+SVG = "image/svg+xml"
 
 
 # Replies

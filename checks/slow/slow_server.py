@@ -14,7 +14,15 @@ HEAD_LIMIT = 8_192
 FIELD_LIMIT = 32
 
 TEXT = "text/plain; charset=utf-8"
-STORED = "application/octet-stream"
+
+# By the command: the type of what it tells, where that isn't TEXT.
+TYPES = {
+    "file": "application/octet-stream",
+    "chart": "image/svg+xml",
+    "form": "text/csv; charset=utf-8",
+    "overview": "text/csv; charset=utf-8",
+    "incidents": "text/csv; charset=utf-8",
+}
 
 # By the status: its phrase, and the body of a reply that names no fault.
 STATUSES = {
@@ -54,7 +62,7 @@ FAULTS = {
 
 # By a path and a method: the command of the slow office. Its arguments are in braces.
 OFFICE_ROUTES = {
-    "/drivers": {"POST": "register"},
+    "/drivers": {"POST": "register", "GET": "drivers"},
     "/cards/{part}": {"POST": "import"},
     "/drivers/{n}/entries": {"POST": "enter", "GET": "entries"},
     "/drivers/{n}/withdraw/{k}": {"POST": "withdraw"},
@@ -65,6 +73,14 @@ OFFICE_ROUTES = {
     "/drivers/{n}/breaches": {"GET": "breaches"},
     "/drivers/{n}/owed": {"GET": "owed"},
     "/drivers/{n}/files/{k}": {"GET": "file"},
+    "/drivers/{n}/stretches": {"GET": "stretches"},
+    "/drivers/{n}/debts": {"GET": "debts"},
+    "/drivers/{n}/files": {"GET": "files"},
+    "/drivers/{n}/form": {"GET": "form"},
+    "/drivers/{n}/why/{month}": {"GET": "why"},
+    "/drivers/{n}/chart/{month}": {"GET": "chart"},
+    "/overview/{month}": {"GET": "overview"},
+    "/incidents/{month}": {"GET": "incidents"},
 }
 # The same of a driver, whose number is the command's first argument.
 DRIVER_ROUTES = {
@@ -76,6 +92,12 @@ DRIVER_ROUTES = {
     "/me/breaches": {"GET": "breaches"},
     "/me/owed": {"GET": "owed"},
     "/me/files/{k}": {"GET": "file"},
+    "/me/stretches": {"GET": "stretches"},
+    "/me/debts": {"GET": "debts"},
+    "/me/files": {"GET": "files"},
+    "/me/form": {"GET": "form"},
+    "/me/why/{month}": {"GET": "why"},
+    "/me/chart/{month}": {"GET": "chart"},
 }
 ROUTES = {**OFFICE_ROUTES, **DRIVER_ROUTES}
 WITH_INPUT = ["register", "import", "own", "enter"]
@@ -290,10 +312,8 @@ def reply_without_line(status: int) -> bytes:
 
 def reply_to_done(command: str, told: bytes) -> bytes:
     """The reply to a command that was done."""
-    if command == "file":
-        return reply_of(200, told, STORED)
     is_added = command in WITH_INPUT and not told.startswith((b"repeated ", b"entered none"))
-    return reply_of(201 if is_added else 200, told)
+    return reply_of(201 if is_added else 200, told, TYPES.get(command, TEXT))
 
 
 def reply_to_fault(line: bytes) -> bytes:

@@ -16,7 +16,7 @@ use Rattle.tacho_message.specs.declared.reply.Status.{Status}
 use Rattle.tacho_message.specs.declared.reply.Status.TheVariants as status
 use Rattle.tacho_http.specs.Access.{OwnWants, PostsAreCommands}
 use Rattle.tacho_http.specs.Asked.{Wish, wish_granted, is_post, same_asker, wish_at, wish_of}
-use Rattle.tacho_http.specs.Routes.{Named, Rows, TableRow, named_at, named_by, rows_of_table, route_table, with_read, with_route}
+use Rattle.tacho_http.specs.Routes.{Named, Rows, TableRow, named_at, named_by, rows_of_table, all_routes, with_read, with_route, with_row, with_rows}
 use Rattle.tacho_http.specs.declared.places.Asker.{Asker}
 use Rattle.tacho_http.specs.declared.places.Asker.TheVariants.{Driver}
 use Rattle.tacho_http.specs.declared.places.Place.{Place}
@@ -112,8 +112,8 @@ module _ (P : Place → Type 0) where
   in_named path (Some route) h = h
 
   -- what is true of each place in the table is true of the place that a path names
-  in_route : (path : List ℕ) → AllKeys P route_table → IfSome (named_at path) (λ named. P named.place)
-  in_route path h = in_named path _ (in_seek (λ route. P route.value) 0 (rows_of_table [] route_table) path (in_table [] route_table h tt))
+  in_route : (path : List ℕ) → AllKeys P all_routes → IfSome (named_at path) (λ named. P named.place)
+  in_route path h = in_named path _ (in_seek (λ route. P route.value) 0 (rows_of_table [] all_routes) path (in_table [] all_routes h tt))
 
 -- ---- what is granted at a place, by what it offers
 
@@ -144,7 +144,8 @@ abbrev IsFit : Place → Type 0
 IsFit place = (fits is_own (same_asker Driver place.asker) place.get ≡ true) × (fits is_own (same_asker Driver place.asker) place.post ≡ true)
 
 -- each row of the table does so
-each_fits : AllKeys IsFit route_table
+each_fits : AllKeys IsFit all_routes
+unfolding all_routes with_rows with_row
 each_fits = assumption refl
 
 -- at a place
@@ -164,7 +165,8 @@ abbrev Posts : Place → Type 0
 Posts place = fits is_command true place.post ≡ true
 
 -- in each row of the table, only commands are posted
-each_posts : AllKeys Posts route_table
+each_posts : AllKeys Posts all_routes
+unfolding all_routes with_rows with_row
 each_posts = assumption refl
 
 -- the test also holds if the place is for the other asker
@@ -194,7 +196,8 @@ abbrev Reads : Place → Type 0
 Reads place = fits is_reading true place.get ≡ true
 
 -- in each row of the table, a GET is offered only readings
-each_reads : AllKeys Reads route_table
+each_reads : AllKeys Reads all_routes
+unfolding all_routes with_rows with_row
 each_reads = assumption refl
 
 -- at a place, a request other than POST is granted only readings

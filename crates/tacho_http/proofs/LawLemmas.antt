@@ -12,7 +12,7 @@ use Rattle.tacho_state.specs.declared.caller.Caller.TheVariants as caller
 use Rattle.tacho_state.specs.declared.fault.StoreFault.{StoreFault}
 use Rattle.tacho_desk.proofs.WordLemmas.{task_once}
 use Rattle.tacho_desk.specs.Own.{IsHis, OneAnswer, OthersStay, RefusalsStay, SameAnswers}
-use Rattle.tacho_desk.specs.Tasks.{Does}
+use Rattle.tacho_desk.specs.Tasks.{Does, want_of}
 use Rattle.tacho_desk.specs.Told.{Added, Answer, File, Line, Long, Told}
 use Rattle.tacho_desk.specs.Words.{ByDriver, ByNumber, IsTask, Wanted, by_part, by_time, most_number, part_of}
 use Rattle.tacho_desk.specs.declared.task.Task.{Task}
@@ -27,22 +27,22 @@ use Rattle.tacho_http.specs.declared.places.Asker.TheVariants as asker
 use Rattle.tacho_message.specs.declared.reply.Status.{Status}
 use Rattle.tacho_message.specs.declared.reply.Status.TheVariants as status
 use Rattle.tacho_http.specs.Laws.{IsFrom, Keeps503, KeepsOthers, OneReply, SameReply}
-use Rattle.tacho_http.specs.Reply.{Reply, done_reply, reply_of_status, reply_to}
+use Rattle.tacho_http.specs.Reply.{Reply, done_reply, fault_reply, reply_of_status, reply_to}
 use Rattle.tacho_http.specs.Serve.{ByCaller, ByKeys, ByOwner, ByWhom, RepliesToTask, Reacts, Runs, RepliesOnly, WithBody, WithWish, bad, body_of, headed, large, unavailable}
 
 -- ---- 503
 
 -- a task that was done isn't answered with 503
-done_is_available : (told : Told) → (done_reply told).status ≡ status.Unavailable → ⊥
-done_is_available (Added line) e = cc
-done_is_available (Line line) e = cc
-done_is_available (Long text) e = cc
-done_is_available (File bytes) e = cc
+done_is_available : (want : Want) (told : Told) → (done_reply want told).status ≡ status.Unavailable → ⊥
+done_is_available want (Added line) e = cc
+done_is_available want (Line line) e = cc
+done_is_available want (Long text) e = cc
+done_is_available want (File bytes) e = cc
 
 module _ (refusals : RefusalsStay) where
   -- a task that is answered with 503 was refused
-  answer_kept : (t : Task) (body : List ℕ) (s : State) (answer : Answer) (after : State) → Does t body s answer after → (reply_to answer).status ≡ status.Unavailable → after ≡ s
-  answer_kept t body s (Ok told) after does e = absurd (done_is_available told e)
+  answer_kept : (t : Task) (body : List ℕ) (s : State) (answer : Answer) (after : State) → Does t body s answer after → (reply_to (want_of t) answer).status ≡ status.Unavailable → after ≡ s
+  answer_kept t body s (Ok told) after does e = absurd (done_is_available (want_of t) told e)
   answer_kept t body s (Err f) after does e = refusals t body s f after does
 
   -- or its arguments were
@@ -177,7 +177,7 @@ module _ (own_wants : OwnWants) (same_answers : SameAnswers) (others_stay : Othe
   -- the reply to a driver's own task
   wanted_same : (n : ℕ) (s other : State) → driver_of n s ≡ driver_of n other → (wanted : Wanted) → ((t : Task) → wanted ≡ Ok t → IsHis n t) → (body : List ℕ) (reply : Reply) (after : State)
       → RepliesToTask wanted body s reply after → (left : State) × RepliesToTask wanted body other reply left × (driver_of n after ≡ driver_of n left)
-  wanted_same n s other e (Err f) theirs body reply after h = told_same n s other e (reply_to (Err f)) reply after h
+  wanted_same n s other e (Err f) theirs body reply after h = told_same n s other e (fault_reply f) reply after h
   wanted_same n s other e (Ok t) theirs body reply after h =
       let x = same_answers n t (theirs t refl) body s other e h.0 after h.1 in (x.0, (h.0, x.1, h.2), x.2)
 
@@ -275,9 +275,9 @@ module _ (own_wants : OwnWants) (same_answers : SameAnswers) (others_stay : Othe
   -- the reply to a driver's own task is the only one
   wanted_once : (n : ℕ) (s : State) (wanted : Wanted) → ((t : Task) → wanted ≡ Ok t → IsHis n t) → (body : List ℕ) (p q : Reply) (after left : State)
       → RepliesToTask wanted body s p after → RepliesToTask wanted body s q left → (p ≡ q) × (after ≡ left)
-  wanted_once n s (Err f) theirs body p q after left h k = told_once s (reply_to (Err f)) p q after left h k
+  wanted_once n s (Err f) theirs body p q after left h k = told_once s (fault_reply f) p q after left h k
   wanted_once n s (Ok t) theirs body p q after left h k =
-      let x = one_answer n t (theirs t refl) body s h.0 k.0 after left h.1 k.1 in (h.2 ∙ (ap reply_to x.0 ∙ sym k.2), x.1)
+      let x = one_answer n t (theirs t refl) body s h.0 k.0 after left h.1 k.1 in (h.2 ∙ (ap (reply_to (want_of t)) x.0 ∙ sym k.2), x.1)
 
   -- with its body
   run_once : (n : ℕ) (s : State) (w : Wish) → is_own w.want ≡ true → (k : ℕ) (rest : List ℕ) (p q : Reply) (after left : State)

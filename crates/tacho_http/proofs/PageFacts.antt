@@ -11,11 +11,15 @@ use Rattle.tacho_sheet.specs.declared.fault.LeftOut.TheVariants as left_out
 use Rattle.tacho_sheet.specs.declared.fault.SheetFault.TheVariants as sheet
 use Rattle.tacho_desk.specs.Told.{Added, File, Line, Long}
 use Rattle.tacho_desk.specs.declared.fault.Fault.TheVariants as fault
+use Rattle.tacho_desk.specs.declared.want.MonthOfAll.TheVariants as all
+use Rattle.tacho_desk.specs.declared.want.MonthReading.TheVariants as month
+use Rattle.tacho_desk.specs.declared.want.Reading.TheVariants as reading
+use Rattle.tacho_desk.specs.declared.want.Want.TheVariants as want
 use Rattle.tacho_message.specs.Reply.{head_bytes}
 use Rattle.tacho_message.specs.declared.reply.MediaType.TheVariants as media
 use Rattle.tacho_message.specs.declared.reply.Status.TheVariants as status
 use Rattle.tacho_http.specs.Answer.{is_done}
-use Rattle.tacho_http.specs.Reply.{bytes_of_reply, fault_status, reply_of_status, fixed_text, reply_to, store_status}
+use Rattle.tacho_http.specs.Reply.{bytes_of_reply, fault_status, media_of, reply_of_status, fixed_text, reply_to, store_status}
 
 -- ---- the statuses of refusals
 
@@ -95,10 +99,10 @@ pub unavailable : fixed_text status.Unavailable ≡ codes "unavailable\n"
 unavailable = refl
 
 -- the reply to out of memory, and to a store failure, has only the fixed text
-pub no_memory : reply_to (Err fault.Memory) ≡ reply_of_status status.Unavailable
+pub no_memory : reply_to want.Drivers (Err fault.Memory) ≡ reply_of_status status.Unavailable
 no_memory = refl
 
-pub store_failed : reply_to (Err (fault.Told (told.Store store.Store))) ≡ reply_of_status status.Unavailable
+pub store_failed : reply_to want.Drivers (Err (fault.Told (told.Store store.Store))) ≡ reply_of_status status.Unavailable
 store_failed = refl
 
 -- ---- whole replies
@@ -109,23 +113,30 @@ unfolding head_bytes digits
 another_is_forbidden = refl
 
 -- the text of `GET /me/breaches`
-pub breaches_of_his : bytes_of_reply (reply_to (Ok (Long (
+pub breaches_of_his : bytes_of_reply (reply_to (want.Reading reading.Breaches) (Ok (Long (
     codes "B1 Art 7 at 2024-03-04 13:00 since 2024-03-04 08:30 amount 240\n" ++ codes "EXAMINED TO 2024-03-04 17:00 unknown\n"))))
     ≡ codes "HTTP/1.1 200 OK\r\ncontent-type: text/plain; charset=utf-8\r\ncontent-length: 100\r\nconnection: close\r\n\r\n"
     ++ codes "B1 Art 7 at 2024-03-04 13:00 since 2024-03-04 08:30 amount 240\nEXAMINED TO 2024-03-04 17:00 unknown\n"
 unfolding head_bytes digits
 breaches_of_his = refl
 
-pub file_is_repeated : bytes_of_reply (reply_to (Ok (Line (codes "repeated driver 17\n"))))
+pub file_is_repeated : bytes_of_reply (reply_to want.Import (Ok (Line (codes "repeated driver 17\n"))))
     ≡ codes "HTTP/1.1 200 OK\r\ncontent-type: text/plain; charset=utf-8\r\ncontent-length: 19\r\nconnection: close\r\n\r\nrepeated driver 17\n"
 unfolding head_bytes digits
 file_is_repeated = refl
 
-pub file_was_added : (reply_to (Ok (Added (codes "added driver 17 number 1\n")))).status ≡ status.Created
+pub file_was_added : (reply_to want.Import (Ok (Added (codes "added driver 17 number 1\n")))).status ≡ status.Created
 file_was_added = refl
 
-pub file_of_his : reply_to (Ok (File (1 ∷ 2 ∷ []))) ≡ record { status = status.Okay; media = media.Octets; body = 1 ∷ 2 ∷ [] }
+pub file_of_his : reply_to want.File (Ok (File (1 ∷ 2 ∷ []))) ≡ record { status = status.Okay; media = media.Octets; body = 1 ∷ 2 ∷ [] }
 file_of_his = refl
+
+pub row_of_his_form : reply_to (want.Reading reading.Form) (Ok (Long (codes "start\n"))) ≡ record { status = status.Okay; media = media.Csv; body = codes "start\n" }
+row_of_his_form = refl
+
+pub types : map media_of (want.MonthReading month.Chart ∷ want.MonthOfAll all.Overview ∷ want.MonthOfAll all.Incidents ∷ want.Reading reading.Files ∷ want.MonthReading month.Spans ∷ [])
+    ≡ media.Svg ∷ media.Csv ∷ media.Csv ∷ media.Text ∷ media.Text ∷ []
+types = refl
 
 -- ---- the statuses of requests that were done
 

@@ -15,7 +15,7 @@ use Rattle.matchit.specs.Router.{RouteOf}
 use Rattle.matchit.specs.Rows.{RowsOf, catch_all_token, param_token}
 use Rattle.matchit.specs.Seek.{better, first, has_slash, longest_from, longest_suffix, or_else, own, param_step, same_text, seek, segment, step, with_suffix}
 use Rattle.matchit.proofs.OnLiterals.{matchit_on_literals}
-use Rattle.tacho_http.specs.Routes.{Rows, rows_of_table, route_table}
+use Rattle.tacho_http.specs.Routes.{Rows, rows_of_table, all_routes, with_row, with_rows}
 use Rattle.tacho_http.specs.declared.places.Place.{Place}
 
 -- ---- which paths the tokens of a pattern match
@@ -484,15 +484,15 @@ fit_leads path ((tokens, route) ∷ rest) h =
     )
 
 -- the table's rows are fit
-table_is_fit : are_fit (rows_of_table [] route_table) ≡ true
-unfolding matchit_on_literals rows_of_table is_utf8 chars encode
+table_is_fit : are_fit (rows_of_table [] all_routes) ≡ true
+unfolding matchit_on_literals all_routes with_rows with_row rows_of_table is_utf8 chars encode
 table_is_fit = refl
 
 -- the parts in braces match valid UTF-8 in a valid path
-pub parts_are_text : (path : List ℕ) → IsUtf8 path → (route : RouteOf Place) → first (rows_of_table [] route_table) path ≡ Some route
+pub parts_are_text : (path : List ℕ) → IsUtf8 path → (route : RouteOf Place) → first (rows_of_table [] all_routes) path ≡ Some route
     → AllText (walk route.pattern route.text path route.names 0 0)
 parts_are_text path utf8 route e =
-    let rows = rows_of_table [] route_table in
+    let rows = rows_of_table [] all_routes in
     let found : IfSome (first rows path) (IsRead path) =
     seek_leads (IsRead path) 0 rows path (utf8_is_bytes path utf8) (fit_leads path rows table_is_fit) in
     let read : IsRead path route = subst (λ (o : Option (RouteOf Place)). IfSome o (IsRead path)) e found in

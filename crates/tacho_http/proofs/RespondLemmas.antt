@@ -17,7 +17,7 @@ use Rattle.tacho_sheet.specs.declared.fault.Fault.TheVariants as told
 use Rattle.tacho_sheet.specs.declared.fault.SheetFault.TheVariants as sheet
 use Rattle.tacho_desk.specs.Doing.{ChangesNothing, Done, IsDurable, Serves, CrashMayLeave as TaskCrashMayLeave}
 use Rattle.tacho_desk.specs.Fault.{IsFailure}
-use Rattle.tacho_desk.specs.Tasks.{Does}
+use Rattle.tacho_desk.specs.Tasks.{Does, want_of}
 use Rattle.tacho_desk.specs.Told.{Added, Answer, File, Line, Long, Told}
 use Rattle.tacho_desk.specs.Words.{IsTask}
 use Rattle.tacho_desk.specs.declared.fault.Fault.{Fault}
@@ -35,7 +35,7 @@ use Rattle.tacho_message.specs.declared.reply.Status.{Status}
 use Rattle.tacho_message.specs.declared.reply.Status.TheVariants as status
 use Rattle.tacho_http.specs.Answer.{Answered, AnswersInput, Asks, Exchanged, HasRepliedOrFailed, HasReplied, IsBegun, IsPosted, IsUndone, IsUnfinished, IsWritten, LacksMore, MayAsk, Responds, CrashMayLeaveResult, CrashMayLeaveReply, is_done}
 use Rattle.tacho_http.specs.Asked.{Wish, asker_of, wish_granted, is_post, want_at, same_asker, wish_at, wish_of}
-use Rattle.tacho_http.specs.Reply.{Reply, reply_of_status, reply_of, reply_to}
+use Rattle.tacho_http.specs.Reply.{Reply, fault_reply, reply_of_status, reply_of, reply_to}
 use Rattle.tacho_http.specs.Routes.{Named, named_at}
 use Rattle.tacho_http.specs.declared.places.Asker.{Asker}
 use Rattle.tacho_desk.specs.Wants.{takes_input}
@@ -82,7 +82,7 @@ undone_as command other (Ok response) less (inr none) = inr none
 undone_as command other (Err failed) less undone = undone
 
 -- if memory ran out or the store failed, the reply is 503
-gave_up : (f : Fault) → IsFailure f → reply_to (Err f) ≡ reply_of_status status.Unavailable
+gave_up : (f : Fault) → IsFailure f → fault_reply f ≡ reply_of_status status.Unavailable
 gave_up fault.Memory h = refl
 gave_up fault.Device h = absurd h
 gave_up (fault.Told (told.Store store.Store)) h = refl
@@ -110,7 +110,7 @@ gave_up (fault.Told told.TooLarge) h = absurd h
 -- ---- the reply to what a task answered
 
 -- no refusal says that a request was done
-refused : (f : Fault) → is_done (reply_to (Err f)).status ≡ false
+refused : (f : Fault) → is_done (fault_reply f).status ≡ false
 refused fault.Device = refl
 refused fault.Memory = refl
 refused (fault.Told (told.Time a)) = refl
@@ -174,7 +174,7 @@ refused (fault.Told (told.Sheet (sheet.Text a b))) = refl
 refused (fault.Told (told.Sheet sheet.Memory)) = refl
 
 -- so a reply to a fault never says so
-never_done : {P : Type 0} (f : Fault) (status : Status) → status ≡ (reply_to (Err f)).status → is_done status ≡ true → P
+never_done : {P : Type 0} (f : Fault) (status : Status) → status ≡ (fault_reply f).status → is_done status ≡ true → P
 never_done f s same done = (let none = refused f in let said = ap is_done same in cc)
 
 -- nor does a reply of 503
@@ -182,41 +182,41 @@ not_available : {P : Type 0} (reply : Reply) → reply ≡ reply_of_status statu
 not_available reply is done = (let said = ap (λ (r : Reply). is_done r.status) is in cc)
 
 module _ (stands : State → Type 0) (leaves : List State → Type 0) (s : State) (t : Task) (body : List ℕ) (Wants : Reaction)
-    (h : (answer : Answer) (after : State) → Does t body s answer after → Wants (reply_to answer) after) where
+    (h : (answer : Answer) (after : State) → Does t body s answer after → Wants (reply_to (want_of t) answer) after) where
   -- after a command that was done, a crash leaves only the state after it
   replied : (command : Bool) (answer : Answer) → Done stands s (Does t body s) answer
-      → (command ≡ true → IsDurable stands leaves (Does t body s) answer) → HasReplied stands leaves command s Wants (reply_to answer)
+      → (command ≡ true → IsDurable stands leaves (Does t body s) answer) → HasReplied stands leaves command s Wants (reply_to (want_of t) answer)
   replied true (Ok text) d kept = (let k = kept refl in inl (k.0, k.1, h (Ok text) k.0 k.2, λ is done. k.3))
   replied false (Ok text) d kept = inl (d.0, d.1, h (Ok text) d.0 d.2, λ is. cc)
   replied command (Err f) (st, inl d) kept = inl (s, st, h (Err f) s d, λ is done. never_done f _ refl done)
   replied command (Err f) (st, inr g) kept = inr (gave_up f g, st)
 
   -- the states that a crash may leave, after a task
-  stopped : (past : List State) (answer : Answer) → TaskCrashMayLeave leaves past (Does t body s) answer → CrashMayLeaveReply leaves past Wants (reply_to answer)
+  stopped : (past : List State) (answer : Answer) → TaskCrashMayLeave leaves past (Does t body s) answer → CrashMayLeaveReply leaves past Wants (reply_to (want_of t) answer)
   stopped past (Ok text) (inl l) = inl l
-  stopped past (Ok text) (inr a) = inr (reply_to (Ok text), a.0, inl refl, h (Ok text) a.0 a.1, a.2)
+  stopped past (Ok text) (inr a) = inr (reply_to (want_of t) (Ok text), a.0, inl refl, h (Ok text) a.0 a.1, a.2)
   stopped past (Err f) (inl l) = inl l
-  stopped past (Err f) (inr a) = inr (reply_to a.1.0, a.1.1, inr (gave_up f a.0), h a.1.0 a.1.1 a.1.2, a.1.3)
+  stopped past (Err f) (inr a) = inr (reply_to (want_of t) a.1.0, a.1.1, inr (gave_up f a.0), h a.1.0 a.1.1 a.1.2, a.1.3)
 
 -- if a request was done, the archive is live
-is_live_after : {P : Type 0} (answer : Answer) → OnOk answer P → is_done (reply_to answer).status ≡ true → P
-is_live_after (Ok text) live done = live
-is_live_after (Err f) live done = never_done f _ refl done
+is_live_after : {P : Type 0} (want : Want) (answer : Answer) → OnOk answer P → is_done (reply_to want answer).status ≡ true → P
+is_live_after want (Ok text) live done = live
+is_live_after want (Err f) live done = never_done f _ refl done
 
 -- the reply to a task that was done says so
-told_done : (text : Told) → is_done (reply_to (Ok text)).status ≡ true
-told_done (Added line) = refl
-told_done (Line line) = refl
-told_done (Long text) = refl
-told_done (File bytes) = refl
+told_done : (want : Want) (text : Told) → is_done (reply_to want (Ok text)).status ≡ true
+told_done want (Added line) = refl
+told_done want (Line line) = refl
+told_done want (Long text) = refl
+told_done want (File bytes) = refl
 
 -- so a task changed nothing if it is no command, or if the reply doesn't say that it was done
-changes_nothing : (command : Bool) (answer : Answer) (s : Status) → s ≡ (reply_to answer).status
+changes_nothing : (command : Bool) (want : Want) (answer : Answer) (s : Status) → s ≡ (reply_to want answer).status
     → (command ≡ false) ⊎ (is_done s ≡ false) → ChangesNothing command answer
-changes_nothing false answer s same undone = tt
-changes_nothing true (Err f) s same undone = tt
-changes_nothing true (Ok text) s same (inl none) = cc
-changes_nothing true (Ok text) s same (inr none) = (let done = told_done text in let said = ap is_done same in cc)
+changes_nothing false want answer s same undone = tt
+changes_nothing true want (Err f) s same undone = tt
+changes_nothing true want (Ok text) s same (inl none) = cc
+changes_nothing true want (Ok text) s same (inr none) = (let done = told_done want text in let said = ap is_done same in cc)
 
 -- ---- refusals before anything is done
 
@@ -405,7 +405,7 @@ module _ {K : Type 0} (stands : K → State → Type 0) (is_clean is_live : K �
 
   -- an argument in the path is bad
   pub wrong_word : (keeper : K) (command : Bool) (unread : Option (List ℕ)) (response : Response) (w : Wish) (n : ℕ) (c : Caller) (after_head body : List ℕ) (f : Fault)
-      → reply_of response ≡ reply_to (Err f) → IsBody after_head unread n body → IsTask w.want c w.driver w.word (Err f)
+      → reply_of response ≡ fault_reply f → IsBody after_head unread n body → IsTask w.want c w.driver w.word (Err f)
       → Responds stands is_clean is_live leaves is_same keeper keeper command unread (Ok response)
       (λ left s. Runs w n c (after_head ++ left) s)
   wrong_word keeper command unread response w n c after_head body f is read wrong =
@@ -414,25 +414,25 @@ module _ {K : Type 0} (stands : K → State → Type 0) (is_clean is_live : K �
 
   -- the task was carried out
   pub carried_out : (old new : K) (command : Bool) (unread : Option (List ℕ)) (response : Response) (answer : Answer) (w : Wish) (n : ℕ) (c : Caller) (after_head body : List ℕ) (t : Task)
-      → reply_of response ≡ reply_to answer → IsBody after_head unread n body → IsTask w.want c w.driver w.word (Ok t)
+      → reply_of response ≡ reply_to (want_of t) answer → IsBody after_head unread n body → IsTask w.want c w.driver w.word (Ok t)
       → Serves stands is_clean is_live leaves is_same old new command answer (Does t body)
       → Responds stands is_clean is_live leaves is_same old new command unread (Ok response) (λ left s. Runs w n c (after_head ++ left) s)
   carried_out old new command unread response answer w n c after_head body t is read task serves = record {
     left = read.left;
     told = read.told;
     clean = serves.clean;
-    live = λ clean done. is_live_after answer (serves.live clean) (subst (λ (r : Reply). is_done r.status ≡ true) is done);
+    live = λ clean done. is_live_after (want_of t) answer (serves.live clean) (subst (λ (r : Reply). is_done r.status ≡ true) is done);
     given = λ clean s st.
         subst (HasReplied (stands new) (leaves new) command s (Runs w n c (after_head ++ read.left) s)) (sym is)
         (replied (stands new) (leaves new) s t body (Runs w n c (after_head ++ read.left) s) (done_for s) command answer (serves.done clean s st)
         (λ is. serves.kept is clean s st));
-    same = λ undone. serves.same (changes_nothing command answer response.status (ap (λ (r : Reply). r.status) is) undone);
+    same = λ undone. serves.same (changes_nothing command (want_of t) answer response.status (ap (λ (r : Reply). r.status) is) undone);
     crash = λ clean s past st l.
         subst (CrashMayLeaveReply (leaves new) past (Runs w n c (after_head ++ read.left) s)) (sym is)
         (stopped (stands new) (leaves new) s t body (Runs w n c (after_head ++ read.left) s) (done_for s) past answer (serves.crash clean s past st l));
   }
     where
-      done_for : (s : State) (answer : Answer) (after : State) → Does t body s answer after → Runs w n c (after_head ++ read.left) s (reply_to answer) after
+      done_for : (s : State) (answer : Answer) (after : State) → Does t body s answer after → Runs w n c (after_head ++ read.left) s (reply_to (want_of t) answer) after
       done_for s answer after does =
           inr (read.long, (Ok t, task, (answer, subst (λ (bytes : List ℕ). Does t bytes s answer after) read.bytes does, refl)))
 

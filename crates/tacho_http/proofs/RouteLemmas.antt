@@ -9,7 +9,7 @@ use Rattle.matchit.specs.Router.{InsertsRead, RouteOf}
 use Rattle.matchit.specs.Seek.{first}
 use Rattle.matchit.specs.declared.error.InsertError.{InsertError}
 use Rattle.tacho_http.specs.declared.places.Place.{Place}
-use Rattle.tacho_http.specs.Routes.{Rows, TableRow, named_at, or_empty, parts_of, rows_of_table, route_table, with_read, with_route}
+use Rattle.tacho_http.specs.Routes.{Rows, TableRow, named_at, or_empty, parts_of, rows_of_table, all_routes, with_read, with_route}
 
 -- a route is added if its text is valid
 pub inserted : (rows after : Rows) (place : Place) (read : Result Scan InsertError) (result : Result (Unit {0}) InsertError)
@@ -50,7 +50,7 @@ rows_end f rows table i h =
     rw none refl
 
 -- what a path names, by the route that it matches
-pub names_found : (path : List ℕ) (route : RouteOf Place) (driver word : List ℕ) → first (rows_of_table [] route_table) path ≡ Some route
+pub names_found : (path : List ℕ) (route : RouteOf Place) (driver word : List ℕ) → first (rows_of_table [] all_routes) path ≡ Some route
     → driver ≡ or_empty (named (codes "driver") (parts_of route path)) → word ≡ or_empty (named (codes "word") (parts_of route path))
     → Some (record { place = route.value; driver = driver; word = word }) ≡ named_at path
 names_found path route driver word is d w = rw (is, d, w) refl

@@ -7,9 +7,13 @@ use Rattle.tacho_sheet.specs.Lines.{fault_line}
 use Rattle.tacho_sheet.specs.declared.fault.Fault.{Fault as ToldFault}
 use Rattle.tacho_sheet.specs.declared.fault.Fault.TheVariants as told
 use Rattle.tacho_sheet.specs.declared.fault.SheetFault.TheVariants as sheet
-use Rattle.tacho_desk.specs.Told.{Answer, Told, Added, Line, Long, File, bytes_of, told_text}
+use Rattle.tacho_desk.specs.Told.{Answer, Told, Added, bytes_of, told_text}
 use Rattle.tacho_desk.specs.declared.fault.Fault.{Fault}
 use Rattle.tacho_desk.specs.declared.fault.Fault.TheVariants as fault
+use Rattle.tacho_desk.specs.declared.want.MonthReading.TheVariants as month
+use Rattle.tacho_desk.specs.declared.want.Reading.TheVariants as reading
+use Rattle.tacho_desk.specs.declared.want.Want.{Want}
+use Rattle.tacho_desk.specs.declared.want.Want.TheVariants as want
 use Rattle.tacho_message.specs.Reply.{reply_bytes}
 use Rattle.tacho_message.specs.declared.reply.MediaType.{MediaType}
 use Rattle.tacho_message.specs.declared.reply.MediaType.TheVariants as media
@@ -89,16 +93,26 @@ fault_reply (fault.Told f) = told_reply (fault_status f) f
 fault_reply fault.Device = reply_of_status status.Unavailable
 fault_reply fault.Memory = reply_of_status status.Unavailable
 
--- 201 if something was added
-abbrev pub done_reply : Told → Reply
-done_reply (Added line) = text_reply status.Created line
-done_reply (Line line) = text_reply status.Okay line
-done_reply (Long text) = text_reply status.Okay text
-done_reply (File bytes) = record { status = status.Okay; media = media.Octets; body = bytes }
+-- the type of what a task answers
+abbrev pub media_of : Want → MediaType
+media_of want.File = media.Octets
+media_of (want.Reading reading.Form) = media.Csv
+media_of (want.MonthReading month.Chart) = media.Svg
+media_of (want.MonthOfAll reading) = media.Csv
+media_of want = media.Text
 
-abbrev pub reply_to : Answer → Reply
-reply_to (Ok told) = done_reply told
-reply_to (Err f) = fault_reply f
+-- 201 if something was added
+abbrev pub done_status : Told → Status
+done_status (Added line) = status.Created
+done_status told = status.Okay
+
+-- the reply of a task of this kind that was done
+abbrev pub done_reply : Want → Told → Reply
+done_reply want told = record { status = done_status told; media = media_of want; body = bytes_of told }
+
+abbrev pub reply_to : Want → Answer → Reply
+reply_to want (Ok told) = done_reply want told
+reply_to want (Err f) = fault_reply f
 
 -- ---- the reply in a value of the code
 

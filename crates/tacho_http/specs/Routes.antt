@@ -1,5 +1,5 @@
 -- Trusted: The routes, and what a path names.
-use Rattle.std.specs.Prelude.{ℕ, List, [], ◌∷◌, Option, Some, None, option_map, codes, Result, Ok, Err}
+use Rattle.std.specs.Prelude.{ℕ, List, [], ◌∷◌, ◌++◌, Option, Some, None, option_map, codes, Result, Ok, Err, bytes_eq, if◌then◌else◌}
 use Rattle.matchit.specs.Rows.{RowsOf}
 use Rattle.matchit.specs.Order.{placed}
 use Rattle.matchit.specs.Params.{named, walk}
@@ -7,10 +7,11 @@ use Rattle.matchit.specs.Route.{Scan, parse_route}
 use Rattle.matchit.specs.Router.{RouteOf, route_from}
 use Rattle.matchit.specs.Seek.{first}
 use Rattle.matchit.specs.declared.error.InsertError.{InsertError}
-use Rattle.tacho_desk.specs.declared.want.MonthReading.TheVariants.{Gaps, Sheet, Spans}
-use Rattle.tacho_desk.specs.declared.want.Reading.TheVariants.{Breaches, Entries, Owed}
+use Rattle.tacho_desk.specs.declared.want.MonthOfAll.TheVariants.{Incidents, Overview}
+use Rattle.tacho_desk.specs.declared.want.MonthReading.TheVariants.{Chart, Gaps, Sheet, Spans, Why}
+use Rattle.tacho_desk.specs.declared.want.Reading.TheVariants.{Breaches, Debts, Entries, Files, Form, Owed, Stretches}
 use Rattle.tacho_desk.specs.declared.want.Want.{Want}
-use Rattle.tacho_desk.specs.declared.want.Want.TheVariants.{Base, Enter, File, Import, MonthReading, Reading, Register, Withdraw}
+use Rattle.tacho_desk.specs.declared.want.Want.TheVariants.{Base, Drivers, Enter, File, Import, MonthOfAll, MonthReading, Reading, Register, Withdraw}
 use Rattle.tacho_http.specs.declared.places.Place.{Place}
 use Rattle.tacho_http.specs.declared.places.Asker.{Asker}
 use Rattle.tacho_http.specs.declared.places.Asker.TheVariants.{Driver, Office}
@@ -22,7 +23,7 @@ TableRow = List ℕ × Place
 abbrev pub table_row : List ℕ → Asker → Option Want → Option Want → TableRow
 table_row path a get post = (path, record { asker = a; get = get; post = post })
 
--- what the office may ask for, and what a driver may; no other path is answered
+-- the paths of the first version: what the office may ask for, and what a driver may
 abbrev pub route_table : List TableRow
 route_table =
     table_row (codes "/drivers") Office None (Some Register)
@@ -45,6 +46,54 @@ route_table =
     ∷ table_row (codes "/me/owed") Driver (Some (Reading Owed)) None
     ∷ table_row (codes "/me/files/{word}") Driver (Some File) None
     ∷ []
+
+-- what else the office may ask for
+abbrev pub office_table : List TableRow
+office_table =
+    table_row (codes "/drivers") Office (Some Drivers) None
+    ∷ table_row (codes "/drivers/{driver}/stretches") Office (Some (Reading Stretches)) None
+    ∷ table_row (codes "/drivers/{driver}/debts") Office (Some (Reading Debts)) None
+    ∷ table_row (codes "/drivers/{driver}/files") Office (Some (Reading Files)) None
+    ∷ table_row (codes "/drivers/{driver}/form") Office (Some (Reading Form)) None
+    ∷ table_row (codes "/drivers/{driver}/why/{word}") Office (Some (MonthReading Why)) None
+    ∷ table_row (codes "/drivers/{driver}/chart/{word}") Office (Some (MonthReading Chart)) None
+    ∷ table_row (codes "/overview/{word}") Office (Some (MonthOfAll Overview)) None
+    ∷ table_row (codes "/incidents/{word}") Office (Some (MonthOfAll Incidents)) None
+    ∷ []
+
+-- what else a driver may ask for
+abbrev pub driver_table : List TableRow
+driver_table =
+    table_row (codes "/me/stretches") Driver (Some (Reading Stretches)) None
+    ∷ table_row (codes "/me/debts") Driver (Some (Reading Debts)) None
+    ∷ table_row (codes "/me/files") Driver (Some (Reading Files)) None
+    ∷ table_row (codes "/me/form") Driver (Some (Reading Form)) None
+    ∷ table_row (codes "/me/why/{word}") Driver (Some (MonthReading Why)) None
+    ∷ table_row (codes "/me/chart/{word}") Driver (Some (MonthReading Chart)) None
+    ∷ []
+
+-- what either offers
+abbrev pub either_offers : Option Want → Option Want → Option Want
+either_offers None more = more
+either_offers (Some want) more = Some want
+
+-- a row with what another row of its path offers
+abbrev pub with_offers : TableRow → TableRow → TableRow
+with_offers row more =
+    table_row row.0 row.1.asker (either_offers row.1.get more.1.get) (either_offers row.1.post more.1.post)
+
+-- a table with one more row, which becomes part of the row of its path if there is one
+unfoldable pub with_row : TableRow → List TableRow → List TableRow
+with_row more [] = more ∷ []
+with_row more (row ∷ table) = if bytes_eq row.0 more.0 then with_offers row more ∷ table else row ∷ with_row more table
+
+unfoldable pub with_rows : List TableRow → List TableRow → List TableRow
+with_rows table [] = table
+with_rows table (more ∷ rest) = with_rows (with_row more table) rest
+
+-- all paths; no other path is answered
+unfoldable pub all_routes : List TableRow
+all_routes = with_rows route_table (office_table ++ driver_table)
 
 abbrev pub Rows : Type 0
 Rows = RowsOf (RouteOf Place)
@@ -86,4 +135,4 @@ named_by path route = record {
 }
 
 abbrev pub named_at : List ℕ → Option Named
-named_at path = option_map (named_by path) (first (rows_of_table [] route_table) path)
+named_at path = option_map (named_by path) (first (rows_of_table [] all_routes) path)

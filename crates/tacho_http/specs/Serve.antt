@@ -6,7 +6,7 @@ use Rattle.tacho_state.specs.Steps.{owner}
 use Rattle.tacho_state.specs.declared.caller.Caller.{Caller}
 use Rattle.tacho_state.specs.declared.caller.Caller.TheVariants as caller
 use Rattle.tacho_state.specs.declared.fault.StoreFault.{StoreFault}
-use Rattle.tacho_desk.specs.Tasks.{Does}
+use Rattle.tacho_desk.specs.Tasks.{Does, want_of}
 use Rattle.tacho_desk.specs.Told.{Answer}
 use Rattle.tacho_desk.specs.Wants.{takes_input}
 use Rattle.tacho_desk.specs.Words.{IsTask, Wanted}
@@ -18,7 +18,7 @@ use Rattle.tacho_message.specs.declared.head.HeadFault.TheVariants as head
 use Rattle.tacho_message.specs.declared.reply.Status.{Status}
 use Rattle.tacho_message.specs.declared.reply.Status.TheVariants as status
 use Rattle.tacho_http.specs.Asked.{Wish, asker_of, wish_of}
-use Rattle.tacho_http.specs.Reply.{Reply, reply_of_status, reply_to}
+use Rattle.tacho_http.specs.Reply.{Reply, fault_reply, reply_of_status, reply_to}
 
 -- a reply, and the state after it
 abbrev pub Reaction : Type 1
@@ -32,8 +32,8 @@ RepliesOnly told s reply after = (reply ≡ told) × (after ≡ s)
 
 -- 400 if an argument is bad, otherwise the reply to what the task answers
 abbrev pub RepliesToTask : Wanted → List ℕ → State → Reaction
-RepliesToTask (Err f) body s = RepliesOnly (reply_to (Err f)) s
-RepliesToTask (Ok t) body s = λ reply after. (answer : Answer) × Does t body s answer after × (reply ≡ reply_to answer)
+RepliesToTask (Err f) body s = RepliesOnly (fault_reply f) s
+RepliesToTask (Ok t) body s = λ reply after. (answer : Answer) × Does t body s answer after × (reply ≡ reply_to (want_of t) answer)
 
 -- 400 if the input ends before the end of the body; bytes after the body are ignored
 abbrev pub Bodied : ℕ → List ℕ → State → (List ℕ → Reaction) → Reaction

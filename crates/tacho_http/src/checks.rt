@@ -121,7 +121,7 @@ fn run_task<K: Keeper, R: Source>(
         asked.word.as_bytes(),
     );
     match task {
-        Ok(task) => Ok(reply(carry_out(alloc, keeper, task, &body))),
+        Ok(task) => Ok(reply(asked.want, carry_out(alloc, keeper, task, &body))),
         Err(fault) => Ok(refusal(fault)),
     }
 }

@@ -1,18 +1,19 @@
 ghost use Rattle.std.specs.Prelude.{◌≡◌, [], IfOk, OnOk, map, option_map};
-ghost use Rattle.tacho_http.specs.Routes.{with_route, route_table, rows_of_table, named_at, or_empty, table_row};
+ghost use Rattle.tacho_http.specs.Routes.{with_route, all_routes, rows_of_table, named_at, or_empty, table_row};
 ghost use Rattle.matchit.specs.Params.{AllText, named, walk};
 
 use self::Asker::{Driver, Office};
 use matchit::{InsertError, Params, Router};
 use std::alloc::Global;
-use tacho_desk::MonthReading::{Gaps, Sheet, Spans};
-use tacho_desk::Reading::{Breaches, Entries, Owed};
+use tacho_desk::MonthOfAll::{Incidents, Overview};
+use tacho_desk::MonthReading::{Chart, Gaps, Sheet, Spans, Why};
+use tacho_desk::Reading::{Breaches, Debts, Entries, Files, Form, Owed, Stretches};
 use tacho_desk::Want::{
-    self, Base, Enter, File, Import, MonthReading, Reading, Register, Withdraw,
+    self, Base, Drivers, Enter, File, Import, MonthOfAll, MonthReading, Reading, Register, Withdraw,
 };
 
 /// Who asks.
-#[derive(Clone, Copy, Debug, PartialEq, Eq)]
+#[derive(Clone, Copy)]
 pub(crate) enum Asker {
     /// The office, for all drivers.
     Office,
@@ -21,7 +22,7 @@ pub(crate) enum Asker {
 }
 
 /// What a path offers: who may ask there, and what a GET and a POST ask for.
-#[derive(Clone, Copy, Debug, PartialEq, Eq)]
+#[derive(Clone, Copy)]
 pub(crate) struct Place {
     pub asker: Asker,
     pub get: Option<Want>,
@@ -33,8 +34,8 @@ type Row = (&'static str, Asker, Option<Want>, Option<Want>);
 
 /// The paths. A part in braces matches one part of a path that isn't empty: the number of a driver, or the other argument, which is a part
 /// of a card file, a number, a day or a month.
-static TABLE: [Row; 19] = [
-    ("/drivers", Office, None, Some(Register)),
+static TABLE: [Row; 33] = [
+    ("/drivers", Office, Some(Drivers), Some(Register)),
     ("/cards/{word}", Office, None, Some(Import)),
     (
         "/drivers/{driver}/entries",
@@ -83,6 +84,50 @@ static TABLE: [Row; 19] = [
     ("/me/breaches", Driver, Some(Reading(Breaches)), None),
     ("/me/owed", Driver, Some(Reading(Owed)), None),
     ("/me/files/{word}", Driver, Some(File), None),
+    (
+        "/drivers/{driver}/stretches",
+        Office,
+        Some(Reading(Stretches)),
+        None,
+    ),
+    (
+        "/drivers/{driver}/debts",
+        Office,
+        Some(Reading(Debts)),
+        None,
+    ),
+    (
+        "/drivers/{driver}/files",
+        Office,
+        Some(Reading(Files)),
+        None,
+    ),
+    ("/drivers/{driver}/form", Office, Some(Reading(Form)), None),
+    (
+        "/drivers/{driver}/why/{word}",
+        Office,
+        Some(MonthReading(Why)),
+        None,
+    ),
+    (
+        "/drivers/{driver}/chart/{word}",
+        Office,
+        Some(MonthReading(Chart)),
+        None,
+    ),
+    ("/overview/{word}", Office, Some(MonthOfAll(Overview)), None),
+    (
+        "/incidents/{word}",
+        Office,
+        Some(MonthOfAll(Incidents)),
+        None,
+    ),
+    ("/me/stretches", Driver, Some(Reading(Stretches)), None),
+    ("/me/debts", Driver, Some(Reading(Debts)), None),
+    ("/me/files", Driver, Some(Reading(Files)), None),
+    ("/me/form", Driver, Some(Reading(Form)), None),
+    ("/me/why/{word}", Driver, Some(MonthReading(Why)), None),
+    ("/me/chart/{word}", Driver, Some(MonthReading(Chart)), None),
 ];
 
 /// Adds a path to a router.
@@ -110,13 +155,13 @@ fn routes_of(alloc: Global, table: &[Row]) -> Result<Router<Place>, InsertError>
 
 /// Makes the router of all paths.
 pub(crate) fn routes(alloc: Global) -> Result<Router<Place>, InsertError>
-    ensures { IfOk result (λ r. r ≡ rows_of_table [] route_table) }
+    ensures { IfOk result (λ r. r ≡ rows_of_table [] all_routes) }
 {
     routes_of(alloc, TABLE.as_slice())
 }
 
 /// What a path names: the place, the number of a driver, and the other argument. Each is empty if the route has none.
-#[derive(Clone, Copy, Debug)]
+#[derive(Clone, Copy)]
 pub(crate) struct Found<'p> {
     pub place: Place,
     pub driver: &'p str,
@@ -136,7 +181,7 @@ fn part_of<'p>(params: &Params<'_, 'p>, name: &str) -> &'p str
 
 /// Finds what a path names.
 pub(crate) fn find<'p>(router: &Router<Place>, path: &'p str) -> Option<Found<'p>>
-    requires { router.now ≡ rows_of_table [] route_table }
+    requires { router.now ≡ rows_of_table [] all_routes }
     ensures { option_map (λ f. record { place = f.place; driver = f.driver.now; word = f.word.now }) result ≡ named_at path.now }
 {
     match router.at(path) {

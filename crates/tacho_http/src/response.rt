@@ -1,9 +1,9 @@
 ghost use Rattle.std.specs.Prelude.{◌≡◌};
 ghost use Rattle.tacho_desk.specs.Told.{answer_of, told_text};
-ghost use Rattle.tacho_http.specs.Reply.{body_bytes, done_reply, fault_reply, fault_status, reply_of_status as fixed_reply, fixed_text, reply_of, reply_to, store_status};
+ghost use Rattle.tacho_http.specs.Reply.{body_bytes, done_reply, fault_reply, fault_status, media_of as media_of_want, reply_of_status as fixed_reply, fixed_text, reply_of, reply_to, store_status};
 
 use tacho_card::CardFault;
-use tacho_desk::{Fault, Text};
+use tacho_desk::{Fault, MonthReading, Reading, Text, Want};
 use tacho_message::{MediaType, Status};
 use tacho_sheet::{Fault as ToldFault, FaultLine, SheetFault, fault_line};
 use tacho_state::StoreFault;
@@ -124,28 +124,39 @@ pub(crate) fn refusal(fault: Fault) -> Response
     }
 }
 
-/// The reply to a task that was done: 201 if something was added. Allocates no memory.
-fn done(text: Text) -> Response
-    ensures { reply_of result ≡ done_reply (told_text text) }
+/// The type of what a task answers.
+fn media_of(want: Want) -> MediaType
+    ensures { result ≡ media_of_want want }
 {
-    let (status, media) = match &text {
-        Text::Added(_) => (Status::Created, MediaType::Text),
-        Text::Line(_) | Text::Long(_) => (Status::Okay, MediaType::Text),
-        Text::File(_) => (Status::Okay, MediaType::Octets),
+    match want {
+        Want::File => MediaType::Octets,
+        Want::MonthReading(MonthReading::Chart) => MediaType::Svg,
+        Want::Reading(Reading::Form) | Want::MonthOfAll(_) => MediaType::Csv,
+        _ => MediaType::Text,
+    }
+}
+
+/// The reply to a task of this kind that was done: 201 if something was added. Allocates no memory.
+fn done(want: Want, text: Text) -> Response
+    ensures { reply_of result ≡ done_reply want (told_text text) }
+{
+    let status = match &text {
+        Text::Added(_) => Status::Created,
+        Text::Line(_) | Text::Long(_) | Text::File(_) => Status::Okay,
     };
     Response {
         status,
-        media,
+        media: media_of(want),
         body: Body::Told(text),
     }
 }
 
-/// The reply to what a task answered.
-pub(crate) fn reply(answer: Result<Text, Fault>) -> Response
-    ensures { reply_of result ≡ reply_to (answer_of answer) }
+/// The reply to what a task of this kind answered.
+pub(crate) fn reply(want: Want, answer: Result<Text, Fault>) -> Response
+    ensures { reply_of result ≡ reply_to want (answer_of answer) }
 {
     match answer {
-        Ok(text) => done(text),
+        Ok(text) => done(want, text),
         Err(fault) => refusal(fault),
     }
 }

@@ -50,6 +50,12 @@ line_of_unavailable = refl
 pub texts : media_type media.Text ≡ codes "text/plain; charset=utf-8"
 texts = refl
 
+pub tables : media_type media.Csv ≡ codes "text/csv; charset=utf-8"
+tables = refl
+
+pub drawings : media_type media.Svg ≡ codes "image/svg+xml"
+drawings = refl
+
 pub files : media_type media.Octets ≡ codes "application/octet-stream"
 files = refl
 

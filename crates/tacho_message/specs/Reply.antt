@@ -21,6 +21,8 @@ status_line status.Unavailable = codes "503 Service Unavailable"
 
 abbrev pub media_type : MediaType → List ℕ
 media_type media.Text = codes "text/plain; charset=utf-8"
+media_type media.Csv = codes "text/csv; charset=utf-8"
+media_type media.Svg = codes "image/svg+xml"
 media_type media.Octets = codes "application/octet-stream"
 
 unfoldable pub head_bytes : Status → MediaType → ℕ → List ℕ

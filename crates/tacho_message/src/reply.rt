@@ -51,10 +51,14 @@ impl Status {
 }
 
 /// The type of a body.
-#[derive(Clone, Copy, Debug, PartialEq, Eq)]
+#[derive(Clone, Copy)]
 pub enum MediaType {
     /// Text in UTF-8.
     Text,
+    /// CSV in UTF-8.
+    Csv,
+    /// A drawing in SVG.
+    Svg,
     /// The bytes of a file.
     Octets,
 }
@@ -67,6 +71,8 @@ impl MediaType {
     {
         match self {
             MediaType::Text => b"text/plain; charset=utf-8",
+            MediaType::Csv => b"text/csv; charset=utf-8",
+            MediaType::Svg => b"image/svg+xml",
             MediaType::Octets => b"application/octet-stream",
         }
     }

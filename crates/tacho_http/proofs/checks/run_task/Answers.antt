@@ -1,4 +1,4 @@
-use Rattle.std.proofs.Common.{◌++◌, Err, List, Ok, subst, ℕ}
+use Rattle.std.proofs.Common.{◌≡◌, ◌++◌, Err, List, Ok, subst, sym, ℕ}
 use Rattle.tacho_desk.specs.Doing.{Serves}
 use Rattle.tacho_desk.specs.Tasks.{Does, want_of}
 use Rattle.tacho_desk.specs.Told.{answer_of}
@@ -6,6 +6,7 @@ use Rattle.tacho_desk.specs.Wants.{is_command}
 use Rattle.tacho_desk.specs.Words.{IsTask}
 use Rattle.tacho_desk.specs.declared.want.Want.{Want}
 use Rattle.tacho_http.specs.Asked.{Wish}
+use Rattle.tacho_http.specs.Reply.{reply_of, reply_to}
 use Rattle.tacho_http.specs.Serve.{Runs}
 use Rattle.tacho_http.proofs.RespondLemmas.{carried_out, unavailable, unread_body, wrong_word}
 use Rattle.tacho_http.proofs.checks.run_task.Goals as goal
@@ -34,7 +35,8 @@ returns-in-Ok-task-clause-responds g c =
     let w : Wish = record { want = c.args.asked.want; driver = c.args.asked.driver.now; word = c.args.asked.word.now } in
     let task : IsTask w.want c.args.caller w.driver w.word (Ok t) = rw c.as_bytes.ensures.value at (rw c.as_bytes-2.ensures.value at c.in-Ok-task.ensures.task) in
     carried_out k.stands k.is_clean k.is_live k.leaves k.is_same k.same_self keeper new (is_command w.want) (g.R.Source.unread c.args.reader.now) c.reply.result answer
-    w c.args.count c.args.caller c.args.after_head.now c.in-Ok.body.items t c.reply.ensures c.in-Ok.ensures.body task
+    w c.args.count c.args.caller c.args.after_head.now c.in-Ok.body.items t
+    (subst (λ (want : Want). reply_of c.reply.result ≡ reply_to want answer) (sym c.in-Ok-task.ensures.want) c.reply.ensures) c.in-Ok.ensures.body task
     (subst (λ (want : Want). Serves k.stands k.is_clean k.is_live k.leaves k.is_same keeper new (is_command want) answer (Does t c.in-Ok.body.items)) c.in-Ok-task.ensures.want
     (subst (λ (body : List ℕ). Serves k.stands k.is_clean k.is_live k.leaves k.is_same keeper new (is_command (want_of t)) answer (Does t body)) c.deref.ensures.value c.carry_out.ensures.serves))
 
