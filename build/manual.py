@@ -1,9 +1,12 @@
 #!/usr/bin/env python3
-"""Prints the man page of the program, which is made from the table of commands in crates/tacho_cli/src/words.rt. To read it:
+"""Prints the man page of the program, which is made from the table of commands in crates/tacho_desk/src/table.rt. To read it:
 
     build/manual.py > tacho.1 && man ./tacho.1
 
-checks/package.py compares it with what the program prints for `tacho help` and `tacho help COMMAND`."""
+With the argument `commands` it prints the table as CSV, which build/commands.csv contains. checks/package.py compares the page with what
+the program prints for `tacho help` and `tacho help COMMAND`, and that file with the table."""
+import csv
+import io
 import os
 import re
 import subprocess
@@ -11,7 +14,25 @@ import sys
 import time
 
 TOP = os.path.dirname(os.path.dirname(os.path.realpath(__file__)))
+TABLE = os.path.join(TOP, "crates", "tacho_desk", "src", "table.rt")
+WANTS = os.path.join(TOP, "crates", "tacho_desk", "specs", "Wants.antt")
 WORDS = os.path.join(TOP, "crates", "tacho_cli", "src", "words.rt")
+
+# The columns of the table as CSV. The input is what the usage names, and the paths are those of the office's request and of a driver's.
+# Several arguments are separated by spaces, and what a command doesn't have is empty.
+COLUMNS = ["command", "arguments", "input", "method", "office", "driver"]
+
+# A row of the table.
+ROW = re.compile(r'''    Command \{
+        name: "(?P<name>[a-z]+)",
+        about: "(?P<about>[^"\\\\]+)",
+        words: &\[(?P<words>[^\]]*)\],
+        act: (?P<act>.*),
+        office: "(?P<office>[^"]*)",
+        driver: "(?P<driver>[^"]*)",
+    \},
+''')
+
 
 # The exit statuses, as docs/FORMATS.md describes them.
 STATUSES = {
@@ -36,24 +57,49 @@ class Stop(Exception):
     """The reason why the man page can't be made."""
 
 
-class Command:
-    """A command: its name, its description, and the names of its arguments in order."""
+def text_of(path: str) -> str:
+    """The text of a file."""
+    with open(path, encoding="utf-8") as file:
+        return file.read()
 
-    def __init__(self, name: str, about: str, arguments: list[str]) -> None:
-        self.name = name
-        self.about = about
-        self.arguments = arguments
+
+class Command:
+    """A command: a row of the table, and whether it changes an archive."""
+
+    def __init__(self, row: re.Match[str], changes: bool) -> None:
+        self.name = row["name"]
+        self.about = row["about"]
+        self.arguments = re.findall(r'"([a-z]+)"', row["words"])
+        read = re.search(rf"tacho {self.name}\b[A-Z ]* < ([A-Z]+)", self.about)
+        self.input = read[1] if read else ""
+        self.office = row["office"]
+        self.driver = row["driver"]
+        self.method = ("POST" if changes else "GET") if self.office or self.driver else ""
+
+    def columns(self) -> list[str]:
+        """The values of COLUMNS."""
+        return [self.name, " ".join(self.arguments), self.input, self.method, self.office, self.driver]
 
 
 def commands_of(source: str) -> list[Command]:
-    """The table of commands in the text of words.rt. Raises `Stop` if a row of it has another form."""
-    table = re.search(r"^static TABLE: \[Row; (\d+)\] = \[\n(.*?)^\];", source, re.MULTILINE | re.DOTALL)
+    """The table of commands in the text of table.rt. Raises `Stop` if a row of it has another form."""
+    table = re.search(r"^static COMMANDS: \[Command; (\d+)\] = \[\n(.*?)^\];", source, re.MULTILINE | re.DOTALL)
     if table is None:
-        raise Stop(f"{WORDS} has no table of commands")
-    rows = re.findall(r'\(\s*"([a-z]+)",\s*"([^"\\]+)",\s*&\[([^\]]*)\],\s*Act::', table[2])
-    if len(rows) != int(table[1]):
-        raise Stop(f"{len(rows)} of the {table[1]} rows of the table of commands in {WORDS} can be read")
-    return [Command(name, about, re.findall(r'"([a-z]+)"', arguments)) for name, about, arguments in rows]
+        raise Stop(f"{TABLE} has no table of commands")
+    changing = [f"AtDesk({want})" for want in re.findall(r"^is_command (\w+) = true$", text_of(WANTS), re.MULTILINE)]
+    commands = [Command(row, row["act"] in changing) for row in ROW.finditer(table[2])]
+    if len(commands) != int(table[1]):
+        raise Stop(f"{len(commands)} of the {table[1]} rows of the table of commands in {TABLE} can be read")
+    return commands
+
+
+def table_csv() -> str:
+    """The table of commands as CSV. Raises `Stop` if it can't be read."""
+    written = io.StringIO()
+    writer = csv.writer(written, lineterminator="\n")
+    writer.writerow(COLUMNS)
+    writer.writerows(command.columns() for command in commands_of(text_of(TABLE)))
+    return written.getvalue()
 
 
 def meanings_of(source: str, commands: list[Command]) -> dict[str, str]:
@@ -88,10 +134,9 @@ def italic(text: str) -> str:
 
 
 def form_of(command: Command) -> str:
-    """How a command is typed, as roff source. What it reads from standard input is taken from its description."""
+    """How a command is typed, as roff source."""
     words = [bold(command.name), *(italic(argument.upper()) for argument in command.arguments)]
-    read = re.search(rf"tacho {command.name}\b[A-Z ]* < ([A-Z]+)", command.about)
-    return " ".join([*words, *(["<", italic(read[1])] if read else [])])
+    return " ".join([*words, *(["<", italic(command.input)] if command.input else [])])
 
 
 def listed(items: list[tuple[str, str]]) -> list[str]:
@@ -101,9 +146,7 @@ def listed(items: list[tuple[str, str]]) -> list[str]:
 
 def manual(version: str, seconds: int) -> str:
     """The man page of a version, with the day of a time in seconds since 1970. Raises `Stop` if it can't be made."""
-    with open(WORDS, encoding="utf-8") as file:
-        source = file.read()
-    commands = commands_of(source)
+    commands = commands_of(text_of(TABLE))
     day = time.strftime("%Y-%m-%d", time.gmtime(seconds))
     lines = [
         f".TH TACHO 1 {day} \"tacho {version}\"",
@@ -129,7 +172,7 @@ def manual(version: str, seconds: int) -> str:
         f"{bold('help')} [{italic('COMMAND')}]",
         escaped("Prints how the program or a command is used, on standard error"),
         ".SH ARGUMENTS",
-        *listed([(italic(argument.upper()), about) for argument, about in meanings_of(source, commands).items()]),
+        *listed([(italic(argument.upper()), about) for argument, about in meanings_of(text_of(WORDS), commands).items()]),
         ".SH EXIT STATUS",
         *listed([(bold(str(status)), about) for status, about in STATUSES.items()]),
         ".SH FILES",
@@ -170,10 +213,10 @@ def time_of_commit() -> int:
     return int(given)
 
 
-def main() -> int:
-    """Prints the man page, and returns the status of this script."""
+def main(*words: str) -> int:
+    """Prints the man page or the table, and returns the status of this script."""
     try:
-        sys.stdout.write(manual(version_of_sources(), time_of_commit()))
+        sys.stdout.write(table_csv() if words == ("commands",) else manual(version_of_sources(), time_of_commit()))
     except Stop as stop:
         print(f"manual: {stop}", file=sys.stderr)
         return 3
@@ -181,4 +224,4 @@ def main() -> int:
 
 
 if __name__ == "__main__":
-    sys.exit(main())
+    sys.exit(main(*sys.argv[1:]))

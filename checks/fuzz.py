@@ -20,6 +20,7 @@ import time
 from inputs import mutated_inputs
 from inputs.mutated_inputs import NO_TEXT, PATH
 from lib import counting, programs, seeds
+from lib.commands import COMMANDS
 from lib.office import STORE_FAILED, Desk
 from lib.office_rows import ANNA, CARD, DAY, DRIVER_HEAD, HOLDER
 from lib.server import asked_of, of_asked, server_after
@@ -93,9 +94,7 @@ def of_files(program, name, files):
 
 # Command lines
 
-COUNTS = {"dump": 0, "holder": 0, "card": 1, "init": 1, "migrate": 1, "check": 1, "register": 1, "drivers": 1, "import": 2, "enter": 2}
-COUNTS |= {"breaches": 2, "owed": 2, "entries": 2, "withdraw": 3, "base": 3, "spans": 3, "gaps": 3, "sheet": 3, "chart": 3, "file": 3}
-COUNTS |= {"version": 0, "key": 2, "why": 3, "files": 2, "stretches": 2, "debts": 2, "overview": 2, "incidents": 2, "form": 2}
+COUNTS = {name: len(command.arguments) for name, command in COMMANDS.items() if name not in ("serve", "listen")}
 USAGE = b"", 2
 
 

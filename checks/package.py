@@ -19,10 +19,12 @@ import tempfile
 import time
 
 from lib import counting, root
+from lib.commands import REQUESTS
 from lib.counting import Comparisons
 from lib.files import EXAMPLES, TOP, content, read, write
 from lib.programs import told_by, version_lines
 from lib.root import Root
+from slow import slow_server
 
 MANUAL = os.path.join(TOP, "build", "manual.py")
 PACKAGE = os.path.join(TOP, "build", "package")
@@ -88,6 +90,11 @@ def statuses(program: str) -> list[int]:
         return [told_by([program, *words])[1] for words in runs]
 
 
+def in_braces(path: str) -> str:
+    """The path of the slow server with the names of the table for what is in braces: the driver, and the other argument."""
+    return re.sub(r"\{(?!driver\})\w+\}", "{word}", path.replace("/drivers/{n}", "/drivers/{driver}"))
+
+
 def man_page(program: str) -> Comparisons:
     """The man page: its commands, arguments and statuses are those of the program."""
     told, status, said = told_by([MANUAL])
@@ -107,6 +114,16 @@ def man_page(program: str) -> Comparisons:
         yield "what groff says about the man page", told_by(["groff", "-man", "-ww", "-Tascii", "-z"], told), (b"", 0, b"")
     else:
         print("left out: what groff says about the man page: apt install groff-base", flush=True)
+
+
+def table_of_commands() -> Comparisons:
+    """build/commands.csv: what the script makes of the program's table, and the requests of the slow server."""
+    yield "the table of commands", told_by([MANUAL, "commands"]), (read(os.path.join(TOP, "build", "commands.csv")), 0, b"")
+    for who, routes in (("office", slow_server.OFFICE_ROUTES), ("driver", slow_server.DRIVER_ROUTES)):
+        made = sorted((getattr(command, who), command.method, name) for name, command in REQUESTS.items() if getattr(command, who))
+        wanted = sorted((in_braces(path), method, "import" if name == "own" else name)
+                        for path, names in routes.items() for method, name in names.items())
+        yield f"the requests of the {who}", made, wanted
 
 
 def of_version(program: str) -> Comparisons:
@@ -331,6 +348,7 @@ def comparisons(program: str) -> Comparisons:
     """All comparisons."""
     program = os.path.abspath(program)
     yield from man_page(program)
+    yield from table_of_commands()
     yield from of_version(program)
     yield from change_log()
     if not shutil.which("dpkg-deb"):

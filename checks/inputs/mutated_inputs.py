@@ -14,6 +14,7 @@ from typing import Any
 from inputs import random_cards, random_commands, random_requests, random_texts
 from inputs.random_cards import ACTIVITY, IDENTIFICATION
 from lib import office_lines
+from lib.commands import COMMANDS
 from lib.files import EXAMPLES
 from slow import slow_archive, slow_csv, slow_office, slow_reader
 from slow.slow_office import Command
@@ -290,9 +291,7 @@ class Texts(random_commands.Commands):
 
 # Command lines
 
-NAMES = ["dump", "holder", "card", "migrate", "check", "register", "import", "enter", "withdraw", "base", "key", "spans", "gaps", "sheet"]
-NAMES += ["chart", "breaches", "why", "owed", "entries", "file", "files", "drivers", "stretches", "debts", "overview", "incidents", "form"]
-NAMES += ["version", "help", "Sheet", ""]
+NAMES = [name for name in COMMANDS if name not in ("init", "serve", "listen")] + ["help", "Sheet", ""]
 WORDS = [PATH, NO_TEXT, "", "17", "018", "0", "1000000", "both", "2024-03", "2024-03-04", "2100-01", "help", "-", "--", "-1", "-h"]
 WORDS += ["--help", "--all=1", "\u0661\u0667", 5_000 * "1", "no-archive"]
 LETTERS = ["", *"0123456789-:/ +.eb\u00e9"]

@@ -3,7 +3,7 @@ as they should be, and with other methods, paths, keys, lengths, fields or bytes
 from collections.abc import Callable, Sequence
 
 from inputs import random_cards, random_commands
-from lib import office_lines
+from lib import commands, office_lines
 from slow import slow_office, slow_server
 from slow.slow_office import Command
 
@@ -14,33 +14,10 @@ OFFICE_KEY = "office-key-1"
 UNKNOWN_KEYS = ["carl-key-1", "", "office-key-", "office-key-11", "OFFICE-KEY-1", "office-key-1, anna-key-1", '"office-key-1"']
 
 # By the name of a command: its path, with the command's arguments. A driver has `/me` where the office names them.
-PATHS = {
-    "register": "/drivers",
-    "import": "/cards/{0}",
-    "own": "/me/cards/{1}",
-    "enter": "/drivers/{0}/entries",
-    "withdraw": "/drivers/{0}/withdraw/{1}",
-    "base": "/drivers/{0}/base/{1}",
-    "spans": "/drivers/{0}/spans/{1}",
-    "gaps": "/drivers/{0}/gaps/{1}",
-    "sheet": "/drivers/{0}/sheet/{1}",
-    "breaches": "/drivers/{0}/breaches",
-    "owed": "/drivers/{0}/owed",
-    "entries": "/drivers/{0}/entries",
-    "file": "/drivers/{0}/files/{1}",
-    "stretches": "/drivers/{0}/stretches",
-    "debts": "/drivers/{0}/debts",
-    "files": "/drivers/{0}/files",
-    "form": "/drivers/{0}/form",
-    "why": "/drivers/{0}/why/{1}",
-    "chart": "/drivers/{0}/chart/{1}",
-    "drivers": "/drivers",
-    "overview": "/overview/{0}",
-    "incidents": "/incidents/{0}",
-}
-OF_ALL = ["drivers", "overview", "incidents"]
-WITH_INPUT = ["register", "import", "own", "enter"]
-WITHOUT_INPUT = ["withdraw", "base"]
+PATHS = {name: command.office for name, command in commands.REQUESTS.items()} | {"own": "/drivers/{driver}/cards/{word}"}
+OWN = ["own", *(name for name, command in commands.REQUESTS.items() if command.method == "GET" and command.driver)]
+POSTED = ["own", *(name for name, command in commands.REQUESTS.items() if command.method == "POST")]
+WITH_INPUT = ["own", *(name for name, command in commands.REQUESTS.items() if command.input)]
 
 METHODS = ["GET", "POST", "PUT", "DELETE", "HEAD", "get", "Post", "PATCH", "OPTIONS", "G", "GET!"]
 OTHER_PATHS = [
@@ -76,6 +53,9 @@ OTHER_PATHS = [
     "/me/chart/",
     "/me/drivers",
     "/me/overview/2024-03",
+    "/version/2",
+    "/me/version/",
+    "/drivers/17/version",
     "http://127.0.0.1/me/breaches",
 ]
 # Lengths that a request gives; '{}' is the body's own.
@@ -180,14 +160,14 @@ class Requests(office_lines.Lines):
         """The parts of the request that asks for a command: of some readings of a driver that by them."""
         command, *others = words
         is_input = command in WITH_INPUT
-        has_own = command in office_lines.READINGS and command not in OF_ALL
-        is_own = command == "own" or has_own and self.chance.random() < 0.4
-        path = PATHS[command].replace("/drivers/{0}", "/me") if is_own else PATHS[command]
+        is_own = command == "own" or command in OWN and self.chance.random() < 0.4
+        path = PATHS[command].replace("/drivers/{driver}", "/me") if is_own else PATHS[command]
+        driver, word = ("", others[0]) if others and "{driver}" not in PATHS[command] else (*others, "", "")[:2]
         fields = [("x-key", self.key_of(others[0]) if is_own else self.office_key)]
-        if is_input or command in WITHOUT_INPUT and self.chance.random() < 0.5:
+        if is_input or command in POSTED and self.chance.random() < 0.5:
             fields.append(("content-length", str(len(given))))
-        method = "POST" if is_input or command in WITHOUT_INPUT else "GET"
-        return Parts(method, path.format(*others), fields, given if is_input else b"")
+        method = "POST" if command in POSTED else "GET"
+        return Parts(method, path.format(driver=driver, word=word), fields, given if is_input else b"")
 
     def dressed(self, name: str) -> str:
         """The name of a field in any case."""

@@ -8,6 +8,7 @@ import re
 from collections import namedtuple
 from collections.abc import Container
 
+from lib.programs import version_lines
 from slow.slow_office import INPUT_LIMIT, Office
 
 HEAD_LIMIT = 8_192
@@ -81,6 +82,7 @@ OFFICE_ROUTES = {
     "/drivers/{n}/chart/{month}": {"GET": "chart"},
     "/overview/{month}": {"GET": "overview"},
     "/incidents/{month}": {"GET": "incidents"},
+    "/version": {"GET": "version"},
 }
 # The same of a driver, whose number is the command's first argument.
 DRIVER_ROUTES = {
@@ -98,6 +100,7 @@ DRIVER_ROUTES = {
     "/me/form": {"GET": "form"},
     "/me/why/{month}": {"GET": "why"},
     "/me/chart/{month}": {"GET": "chart"},
+    "/me/version": {"GET": "version"},
 }
 ROUTES = {**OFFICE_ROUTES, **DRIVER_ROUTES}
 WITH_INPUT = ["register", "import", "own", "enter"]
@@ -363,7 +366,7 @@ class Server:
             return reply_without_line(refused.status)
         if len(rest) < length:
             return reply_without_line(400)
-        told, status = self.office.answer(words, rest[:length])
+        told, status = (version_lines(), 0) if words[0] == "version" else self.office.answer(words, rest[:length])
         return reply_to_fault(told) if status else reply_to_done(words[0], told)
 
     def replies(self, given: bytes) -> list[bytes]:

@@ -252,6 +252,7 @@ fn serve_requests<S: Alter + Drop>(
             status: 3,
         },
         Err(ServeFault::Store) => refused(StoreFault::Store),
+        Err(ServeFault::Memory) => refused(StoreFault::Memory),
     };
     (ending, archive.close())
 }

@@ -57,6 +57,7 @@ none_faulty (task.Reading n text) input f e h = h
 none_faulty (task.MonthReading n m text) input f e h = h
 none_faulty (task.File n number) input f e h = h
 none_faulty task.Drivers input f e h = h
+none_faulty task.Version input f e h = h
 none_faulty (task.MonthOfAll m text) input f e h = h
 
 -- ---- X2
@@ -101,6 +102,7 @@ words_without want.File c driver word is =
     driver_without c driver (λ n. ByNumber most_number word (λ k w. w ≡ Ok (task.File n k)))
     (λ n. number_without word (λ k. task.File n k)) is
 words_without want.Drivers c driver word is = cc
+words_without want.Version c driver word is = cc
 words_without (want.MonthOfAll text) c driver word is = time_without (λ month. task.MonthOfAll month text) (month_at word) is
 
 -- nor is a text of CSV or a key
@@ -129,6 +131,7 @@ input_without (task.Reading n text) input h = h
 input_without (task.MonthReading n m text) input h = h
 input_without (task.File n number) input h = h
 input_without task.Drivers input h = h
+input_without task.Version input h = h
 input_without (task.MonthOfAll m text) input h = h
 
 -- nor is an input that may be too large

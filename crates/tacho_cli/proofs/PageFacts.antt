@@ -11,120 +11,27 @@ use Rattle.tacho_sheet.specs.declared.fault.Fault.TheVariants as told
 use Rattle.tacho_sheet.specs.declared.fault.LeftOut.TheVariants as left_out
 use Rattle.tacho_sheet.specs.declared.fault.SheetFault.TheVariants as sheet
 use Rattle.tacho_desk.specs.declared.fault.Fault.TheVariants as fault
-use Rattle.tacho_desk.specs.declared.want.MonthOfAll.TheVariants as all
-use Rattle.tacho_desk.specs.declared.want.MonthReading.TheVariants as month
-use Rattle.tacho_desk.specs.declared.want.Reading.TheVariants as reading
-use Rattle.tacho_desk.specs.declared.want.Want.TheVariants as want
 use Rattle.tacho_cli.specs.Fault.{command_fault_line, exit_status}
-use Rattle.tacho_cli.specs.Words.{Subcommand, act_named, driver_id, has_driver, subcommands, word_id}
-use Rattle.tacho_cli.specs.declared.act.Act.{Act}
-use Rattle.tacho_cli.specs.declared.act.Act.TheVariants as act
+use Rattle.tacho_cli.specs.Words.{act_named, driver_id, has_driver, word_id}
+use Rattle.tacho_desk.specs.Commands.{Row, all_commands}
+use Rattle.tacho_desk.specs.declared.table.Act.{Act}
+use Rattle.tacho_desk.specs.declared.table.Act.TheVariants as act
 
 -- ---- subcommands
 
 -- what each does
-dump : act_named (codes "dump") subcommands ≡ Some act.Dump
-dump = refl
-
-holder : act_named (codes "holder") subcommands ≡ Some act.Holder
-holder = refl
-
-whole_card : act_named (codes "card") subcommands ≡ Some act.Card
-whole_card = refl
-
-init : act_named (codes "init") subcommands ≡ Some act.Init
-init = refl
-
-migrate : act_named (codes "migrate") subcommands ≡ Some act.Migrate
-migrate = refl
-
-check : act_named (codes "check") subcommands ≡ Some act.Check
-check = refl
-
-register : act_named (codes "register") subcommands ≡ Some (act.AtDesk want.Register)
-register = refl
-
-import : act_named (codes "import") subcommands ≡ Some (act.AtDesk want.Import)
-import = refl
-
-enter : act_named (codes "enter") subcommands ≡ Some (act.AtDesk want.Enter)
-enter = refl
-
-withdraw : act_named (codes "withdraw") subcommands ≡ Some (act.AtDesk want.Withdraw)
-withdraw = refl
-
-base : act_named (codes "base") subcommands ≡ Some (act.AtDesk want.Base)
-base = refl
-
-key : act_named (codes "key") subcommands ≡ Some (act.AtDesk want.Key)
-key = refl
-
-spans : act_named (codes "spans") subcommands ≡ Some (act.AtDesk (want.MonthReading month.Spans))
-spans = refl
-
-gaps : act_named (codes "gaps") subcommands ≡ Some (act.AtDesk (want.MonthReading month.Gaps))
-gaps = refl
-
-month_sheet : act_named (codes "sheet") subcommands ≡ Some (act.AtDesk (want.MonthReading month.Sheet))
-month_sheet = refl
-
-chart : act_named (codes "chart") subcommands ≡ Some (act.AtDesk (want.MonthReading month.Chart))
-chart = refl
-
-breaches : act_named (codes "breaches") subcommands ≡ Some (act.AtDesk (want.Reading reading.Breaches))
-breaches = refl
-
-why : act_named (codes "why") subcommands ≡ Some (act.AtDesk (want.MonthReading month.Why))
-why = refl
-
-owed : act_named (codes "owed") subcommands ≡ Some (act.AtDesk (want.Reading reading.Owed))
-owed = refl
-
-entries : act_named (codes "entries") subcommands ≡ Some (act.AtDesk (want.Reading reading.Entries))
-entries = refl
-
-file : act_named (codes "file") subcommands ≡ Some (act.AtDesk want.File)
-file = refl
-
-files : act_named (codes "files") subcommands ≡ Some (act.AtDesk (want.Reading reading.Files))
-files = refl
-
-drivers : act_named (codes "drivers") subcommands ≡ Some (act.AtDesk want.Drivers)
-drivers = refl
-
-stretches : act_named (codes "stretches") subcommands ≡ Some (act.AtDesk (want.Reading reading.Stretches))
-stretches = refl
-
-debts : act_named (codes "debts") subcommands ≡ Some (act.AtDesk (want.Reading reading.Debts))
-debts = refl
-
-overview : act_named (codes "overview") subcommands ≡ Some (act.AtDesk (want.MonthOfAll all.Overview))
-overview = refl
-
-incidents : act_named (codes "incidents") subcommands ≡ Some (act.AtDesk (want.MonthOfAll all.Incidents))
-incidents = refl
-
-form : act_named (codes "form") subcommands ≡ Some (act.AtDesk (want.Reading reading.Form))
-form = refl
-
-serve : act_named (codes "serve") subcommands ≡ Some act.Serve
-serve = refl
-
-listen : act_named (codes "listen") subcommands ≡ Some act.Listen
-listen = refl
-
-version : act_named (codes "version") subcommands ≡ Some act.Version
-version = refl
+each_named : map (λ row. act_named row.name all_commands) all_commands ≡ map (λ row. Some row.act) all_commands
+each_named = refl
 
 -- another name is no subcommand
-other_name : act_named (codes "holders") subcommands ≡ None
+other_name : act_named (codes "holders") all_commands ≡ None
 other_name = refl
 
 -- a subcommand and its arguments, as they are given
-abbrev given : Subcommand → Text
-given row = row.0 ++ flat_map (λ word. codes " " ++ word) row.1
+abbrev given : Row → Text
+given row = row.name ++ flat_map (λ word. codes " " ++ word) row.words
 
-all_given : map given subcommands
+all_given : map given all_commands
     ≡ codes "dump" ∷ codes "holder" ∷ codes "card part" ∷ codes "init archive" ∷ codes "migrate archive"
     ∷ codes "check archive" ∷ codes "register archive"
     ∷ codes "import archive part" ∷ codes "enter archive driver" ∷ codes "withdraw archive driver number" ∷ codes "base archive driver date"
@@ -146,7 +53,7 @@ abbrev read_words : Act → List Text → List Text
 read_words (act.AtDesk w) words = codes "archive" ∷ (one (driver_id (has_driver w)) ++ one (word_id w))
 read_words a words = words
 
-words_are_read : map (λ row. read_words row.2 row.1) subcommands ≡ map (λ row. row.1) subcommands
+words_are_read : map (λ row. read_words row.act row.words) all_commands ≡ map (λ row. row.words) all_commands
 words_are_read = refl
 
 -- ---- faults

@@ -8,11 +8,12 @@ use Rattle.clap.specs.declared.parser.matches.SubCommand.{SubCommand}
 use Rattle.clap.proofs.OnLiterals.{clap_on_literals}
 use Rattle.clap.specs.declared.error.kind.ErrorKind.{ErrorKind}
 use Rattle.clap.specs.declared.error.kind.ErrorKind.TheVariants.{OutOfMemory}
-use Rattle.tacho_cli.specs.declared.act.Act.{Act}
+use Rattle.tacho_desk.specs.Commands.{all_commands}
+use Rattle.tacho_desk.specs.declared.table.Act.{Act}
 use Rattle.tacho_cli.specs.declared.job.Job.{Job}
 use Rattle.tacho_cli.specs.declared.words.Usage.{Usage}
 use Rattle.tacho_cli.specs.declared.words.Usage.TheVariants as usage
-use Rattle.tacho_cli.specs.Words.{act_named, tacho_app, subcommands, with_table, with_words, has_port, IsActUsage, IsJob, IsJobOf, IsPortUsage, IsRefusal, IsUsage}
+use Rattle.tacho_cli.specs.Words.{act_named, tacho_app, with_table, with_words, has_port, IsActUsage, IsJob, IsJobOf, IsPortUsage, IsRefusal, IsUsage}
 
 pub tacho_is_simple : is_simple tacho_app ≡ true
 unfolding clap_on_literals tacho_app with_table with_words
@@ -48,13 +49,13 @@ of_job (Err u) p = tt
 
 -- the job of the subcommand that was found
 pub job_met : (sub : Option (Text × List Row)) (name : Text) (rows : List Row) (a : Act) (result : Result Job Usage)
-    → sub ≡ Some (name, rows) → act_named name subcommands ≡ Some a → IfOk result (IsJobOf a rows) → IfOk result (IsJob sub)
+    → sub ≡ Some (name, rows) → act_named name all_commands ≡ Some a → IfOk result (IsJobOf a rows) → IfOk result (IsJob sub)
 job_met sub name rows a (Ok j) is named h = (name, rows, a, is, named, h)
 job_met sub name rows a (Err u) is named h = tt
 
 -- the fault of the subcommand that was found
 act_usage : (taken : Bool) (sub : Option (Text × List Row)) (name : Text) (rows : List Row) (a : Act) (u : Usage) → sub ≡ Some (name, rows)
-    → act_named name subcommands ≡ Some a → IsActUsage a rows u → IsUsage taken sub u
+    → act_named name all_commands ≡ Some a → IsActUsage a rows u → IsUsage taken sub u
 act_usage taken sub name rows a usage.Numbers is named h = (name, rows, a, is, named, h.0, h.1)
 act_usage taken sub name rows a usage.Parser is named h = tt
 act_usage taken sub name rows a usage.Memory is named h = tt
@@ -68,6 +69,6 @@ port_usage a rows usage.Memory is h = absurd h
 port_usage a rows (usage.Words text) is h = absurd h
 
 pub usage_met : (taken : Bool) (sub : Option (Text × List Row)) (name : Text) (rows : List Row) (a : Act) (result : Result Job Usage)
-    → sub ≡ Some (name, rows) → act_named name subcommands ≡ Some a → IfErr result (IsActUsage a rows) → IfErr result (IsUsage taken sub)
+    → sub ≡ Some (name, rows) → act_named name all_commands ≡ Some a → IfErr result (IsActUsage a rows) → IfErr result (IsUsage taken sub)
 usage_met taken sub name rows a (Ok j) is named h = tt
 usage_met taken sub name rows a (Err u) is named h = act_usage taken sub name rows a u is named h

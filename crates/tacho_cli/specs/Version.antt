@@ -1,10 +1,6 @@
 -- Trusted: What `version` prints.
-use Rattle.std.specs.Prelude.{ℕ, List, ◌++◌, codes}
+use Rattle.tacho_desk.specs.Version.{version_text}
 use Rattle.tacho_cli.specs.Command.{Reply}
-
--- the program's version, the schema of the archives that it makes, and the kit that has proved it, a line each
-abbrev pub version_text : List ℕ
-version_text = codes "tacho 1.1.0\n" ++ (codes "schema 2\n" ++ codes "rattle-kit-13f logic dac8208d650f15bf\n")
 
 abbrev pub version_reply : Reply
 version_reply = record { text = version_text; status = 0 }

@@ -7,13 +7,11 @@ use Rattle.clap.specs.declared.error.kind.ErrorKind.TheVariants.{OutOfMemory}
 use Rattle.tacho_cli.specs.declared.words.Usage.{Usage}
 use Rattle.tacho_cli.specs.declared.words.Usage.TheVariants as usage
 use Rattle.tacho_desk.specs.Wants.{takes_input}
-use Rattle.tacho_desk.specs.declared.want.MonthOfAll.TheVariants as all
-use Rattle.tacho_desk.specs.declared.want.MonthReading.TheVariants as month
-use Rattle.tacho_desk.specs.declared.want.Reading.TheVariants as reading
+use Rattle.tacho_desk.specs.declared.table.Act.{Act}
+use Rattle.tacho_desk.specs.declared.table.Act.TheVariants as act
+use Rattle.tacho_desk.specs.Commands.{Row as Command, all_commands}
 use Rattle.tacho_desk.specs.declared.want.Want.{Want}
 use Rattle.tacho_desk.specs.declared.want.Want.TheVariants as want
-use Rattle.tacho_cli.specs.declared.act.Act.{Act}
-use Rattle.tacho_cli.specs.declared.act.Act.TheVariants as act
 use Rattle.tacho_cli.specs.declared.job.Job.{Job}
 use Rattle.tacho_cli.specs.declared.job.Job.TheVariants as job
 
@@ -28,64 +26,25 @@ unfoldable pub with_words : App → List Text → App
 with_words app [] = app
 with_words app (id ∷ ids) = with_words (with_rule app (word_rule id)) ids
 
--- a subcommand: its name, its arguments in order, and what it does
-abbrev pub Subcommand : Type 0
-Subcommand = Text × List Text × Act
-
 -- a command with these subcommands, each with its arguments
-unfoldable pub with_table : App → List Subcommand → App
+unfoldable pub with_table : App → List Command → App
 with_table app [] = app
-with_table app (row ∷ table) = with_table (with_subcommand app (with_words (new_app row.0) row.1).top) table
+with_table app (row ∷ table) = with_table (with_subcommand app (with_words (new_app row.name) row.words).top) table
 
 -- a command of which one subcommand is required
 abbrev pub needs_subcommand : App → App
 needs_subcommand app = record app { top = record app.top { subcommand_required = true } }
 
-abbrev pub subcommands : List Subcommand
-subcommands =
-    (codes "dump", [], act.Dump)
-    ∷ (codes "holder", [], act.Holder)
-    ∷ (codes "card", codes "part" ∷ [], act.Card)
-    ∷ (codes "init", codes "archive" ∷ [], act.Init)
-    ∷ (codes "migrate", codes "archive" ∷ [], act.Migrate)
-    ∷ (codes "check", codes "archive" ∷ [], act.Check)
-    ∷ (codes "register", codes "archive" ∷ [], act.AtDesk want.Register)
-    ∷ (codes "import", codes "archive" ∷ codes "part" ∷ [], act.AtDesk want.Import)
-    ∷ (codes "enter", codes "archive" ∷ codes "driver" ∷ [], act.AtDesk want.Enter)
-    ∷ (codes "withdraw", codes "archive" ∷ codes "driver" ∷ codes "number" ∷ [], act.AtDesk want.Withdraw)
-    ∷ (codes "base", codes "archive" ∷ codes "driver" ∷ codes "date" ∷ [], act.AtDesk want.Base)
-    ∷ (codes "key", codes "archive" ∷ codes "driver" ∷ [], act.AtDesk want.Key)
-    ∷ (codes "spans", codes "archive" ∷ codes "driver" ∷ codes "month" ∷ [], act.AtDesk (want.MonthReading month.Spans))
-    ∷ (codes "gaps", codes "archive" ∷ codes "driver" ∷ codes "month" ∷ [], act.AtDesk (want.MonthReading month.Gaps))
-    ∷ (codes "sheet", codes "archive" ∷ codes "driver" ∷ codes "month" ∷ [], act.AtDesk (want.MonthReading month.Sheet))
-    ∷ (codes "chart", codes "archive" ∷ codes "driver" ∷ codes "month" ∷ [], act.AtDesk (want.MonthReading month.Chart))
-    ∷ (codes "breaches", codes "archive" ∷ codes "driver" ∷ [], act.AtDesk (want.Reading reading.Breaches))
-    ∷ (codes "why", codes "archive" ∷ codes "driver" ∷ codes "month" ∷ [], act.AtDesk (want.MonthReading month.Why))
-    ∷ (codes "owed", codes "archive" ∷ codes "driver" ∷ [], act.AtDesk (want.Reading reading.Owed))
-    ∷ (codes "entries", codes "archive" ∷ codes "driver" ∷ [], act.AtDesk (want.Reading reading.Entries))
-    ∷ (codes "file", codes "archive" ∷ codes "driver" ∷ codes "number" ∷ [], act.AtDesk want.File)
-    ∷ (codes "files", codes "archive" ∷ codes "driver" ∷ [], act.AtDesk (want.Reading reading.Files))
-    ∷ (codes "drivers", codes "archive" ∷ [], act.AtDesk want.Drivers)
-    ∷ (codes "stretches", codes "archive" ∷ codes "driver" ∷ [], act.AtDesk (want.Reading reading.Stretches))
-    ∷ (codes "debts", codes "archive" ∷ codes "driver" ∷ [], act.AtDesk (want.Reading reading.Debts))
-    ∷ (codes "overview", codes "archive" ∷ codes "month" ∷ [], act.AtDesk (want.MonthOfAll all.Overview))
-    ∷ (codes "incidents", codes "archive" ∷ codes "month" ∷ [], act.AtDesk (want.MonthOfAll all.Incidents))
-    ∷ (codes "form", codes "archive" ∷ codes "driver" ∷ [], act.AtDesk (want.Reading reading.Form))
-    ∷ (codes "serve", codes "archive" ∷ codes "key" ∷ codes "port" ∷ codes "count" ∷ [], act.Serve)
-    ∷ (codes "listen", codes "archive" ∷ codes "port" ∷ codes "count" ∷ [], act.Listen)
-    ∷ (codes "version", [], act.Version)
-    ∷ []
-
 -- `tacho` with its subcommands, one of which is required
 unfoldable pub tacho_app : App
-tacho_app = with_table (needs_subcommand (new_app (codes "tacho"))) subcommands
+tacho_app = with_table (needs_subcommand (new_app (codes "tacho"))) all_commands
 
 -- ---- the job
 
 -- what the subcommand with a name does: the act of the first row with this name
-abbrev pub act_named : Text → List Subcommand → Option Act
+abbrev pub act_named : Text → List Command → Option Act
 act_named name [] = None
-act_named name (row ∷ table) = if bytes_eq row.0 name then Some row.2 else act_named name table
+act_named name (row ∷ table) = if bytes_eq row.name name then Some row.act else act_named name table
 
 -- the job has an input: a text of CSV, a card file or a key
 abbrev pub has_input : Job → Bool
@@ -109,6 +68,7 @@ abbrev pub has_driver : Want → Bool
 has_driver want.Register = false
 has_driver want.Import = false
 has_driver want.Drivers = false
+has_driver want.Version = false
 has_driver (want.MonthOfAll text) = false
 has_driver other = true
 
@@ -155,7 +115,7 @@ IsJobOf a rows j = ⊥
 -- the job of the subcommand that the arguments name
 abbrev pub IsJob : Option (Text × List Row) → Job → Type 0
 IsJob sub j =
-    (name : Text) × (rows : List Row) × (a : Act) × (sub ≡ Some (name, rows)) × (act_named name subcommands ≡ Some a) × IsJobOf a rows j
+    (name : Text) × (rows : List Row) × (a : Act) × (sub ≡ Some (name, rows)) × (act_named name all_commands ≡ Some a) × IsJobOf a rows j
 
 -- the job is done at an existing archive
 abbrev pub at_desk : Job → Bool
@@ -213,7 +173,7 @@ IsActUsage a rows u = ⊥
 abbrev pub IsUsage : Bool → Option (Text × List Row) → Usage → Type 0
 IsUsage taken sub (usage.Words text) = taken ≡ false
 IsUsage taken sub usage.Numbers =
-    (name : Text) × (rows : List Row) × (a : Act) × (sub ≡ Some (name, rows)) × (act_named name subcommands ≡ Some a) × (has_port a ≡ true)
+    (name : Text) × (rows : List Row) × (a : Act) × (sub ≡ Some (name, rows)) × (act_named name all_commands ≡ Some a) × (has_port a ≡ true)
     × HasNoNumbered rows
 IsUsage taken sub usage.Parser = Unit {0}
 IsUsage taken sub usage.Memory = Unit {0}

@@ -1,15 +1,16 @@
 ghost use Rattle.std.specs.Prelude.{◌≡◌, [], IfOk, IfErr, IfSome, codes, false, map, string_bytes};
 ghost use Rattle.clap.specs.Words.{app_of, fault_of, found_of, kind_of, new_app, rows_of, rule_of, subcommand_of, takes};
 ghost use Rattle.clap.specs.declared.builder.command.Command.TheViews.{out-Command as fields_of};
-ghost use Rattle.tacho_cli.specs.Words.{act_named, needs_subcommand, tacho_app, subcommands, with_table, with_words, word_id, word_rule};
+ghost use Rattle.tacho_desk.specs.Commands.{all_commands, row_of};
+ghost use Rattle.tacho_cli.specs.Words.{act_named, needs_subcommand, tacho_app, with_table, with_words, word_id, word_rule};
 ghost use Rattle.tacho_cli.specs.Words.{IsActUsage, IsDriverText, IsJob, IsJobOf, IsNumbered, IsPortUsage, IsRefusal, IsUsage, IsWord, IsWordText};
 
-use crate::act::{Act, names_driver, word_of};
+use crate::act::{names_driver, word_of};
 use crate::job::{DeskJob, Job};
 use clap::error::ErrorKind;
 use clap::{Arg, ArgMatches, Command, Error};
 use std::alloc::{AllocError, Global};
-use tacho_desk::{MonthOfAll, MonthReading, Reading, Want};
+use tacho_desk::{Act, Command as Row, Want, command_table};
 use tacho_sheet::read_number;
 
 /// Why a command line names no job.
@@ -35,199 +36,6 @@ impl From<AllocError> for Usage {
         Usage::Memory
     }
 }
-
-/// A subcommand: its name, its description for the user, the names of its arguments in order, and what it does.
-type Row = (&'static str, &'static str, &'static [&'static str], Act);
-
-/// The subcommands.
-static TABLE: [Row; 31] = [
-    (
-        "dump",
-        "Prints the spans in the value of an EF Driver_Activity_Data (0504), one per line: tacho dump < FILE",
-        &[],
-        Act::Dump,
-    ),
-    (
-        "holder",
-        "Prints the holder in a card file, as 30 hexadecimal digits: tacho holder < FILE",
-        &[],
-        Act::Holder,
-    ),
-    (
-        "card",
-        "Prints the spans in a card file, one per line: tacho card PART < FILE",
-        &["part"],
-        Act::Card,
-    ),
-    (
-        "init",
-        "Creates an archive without drivers, in a new or empty file",
-        &["archive"],
-        Act::Init,
-    ),
-    (
-        "migrate",
-        "Converts an archive of an earlier schema to this program's; make a backup first",
-        &["archive"],
-        Act::Migrate,
-    ),
-    (
-        "check",
-        "Checks all rows of an archive: prints sound, or unsound with the first driver and table whose rows can't be right",
-        &["archive"],
-        Act::Check,
-    ),
-    (
-        "register",
-        "Adds a driver: tacho register ARCHIVE < CSV with the head driver,holder,key,base,name",
-        &["archive"],
-        Act::AtDesk(Want::Register),
-    ),
-    (
-        "import",
-        "Adds a driver's card file: tacho import ARCHIVE PART < FILE",
-        &["archive", "part"],
-        Act::AtDesk(Want::Import),
-    ),
-    (
-        "enter",
-        "Enters a driver's hours by hand: tacho enter ARCHIVE DRIVER < CSV with the head start,past,activity or start,past,activity,author,note",
-        &["archive", "driver"],
-        Act::AtDesk(Want::Enter),
-    ),
-    (
-        "withdraw",
-        "Withdraws an entry, which stays listed and gives no more hours",
-        &["archive", "driver", "number"],
-        Act::AtDesk(Want::Withdraw),
-    ),
-    (
-        "base",
-        "Sets the Monday from which a driver's hours are examined",
-        &["archive", "driver", "date"],
-        Act::AtDesk(Want::Base),
-    ),
-    (
-        "key",
-        "Sets a driver's key: tacho key ARCHIVE DRIVER < FILE, where FILE has the key as its only line",
-        &["archive", "driver"],
-        Act::AtDesk(Want::Key),
-    ),
-    (
-        "spans",
-        "Prints the spans of a driver's month as CSV",
-        &["archive", "driver", "month"],
-        Act::AtDesk(Want::MonthReading(MonthReading::Spans)),
-    ),
-    (
-        "gaps",
-        "Prints the gaps in a driver's month, for which the archive has no hours",
-        &["archive", "driver", "month"],
-        Act::AtDesk(Want::MonthReading(MonthReading::Gaps)),
-    ),
-    (
-        "sheet",
-        "Prints the sheet of a driver's month, with its totals and breaches",
-        &["archive", "driver", "month"],
-        Act::AtDesk(Want::MonthReading(MonthReading::Sheet)),
-    ),
-    (
-        "chart",
-        "Draws a driver's month as SVG, with a row for each day, and the breaches: tacho chart ARCHIVE DRIVER MONTH > month.svg",
-        &["archive", "driver", "month"],
-        Act::AtDesk(Want::MonthReading(MonthReading::Chart)),
-    ),
-    (
-        "breaches",
-        "Prints a driver's breaches up to the end of the first examination",
-        &["archive", "driver"],
-        Act::AtDesk(Want::Reading(Reading::Breaches)),
-    ),
-    (
-        "why",
-        "Prints the breaches of a driver's month, each with the evidence for it",
-        &["archive", "driver", "month"],
-        Act::AtDesk(Want::MonthReading(MonthReading::Why)),
-    ),
-    (
-        "owed",
-        "Prints the rest that a driver owes or has paid, up to the end of the first examination",
-        &["archive", "driver"],
-        Act::AtDesk(Want::Reading(Reading::Owed)),
-    ),
-    (
-        "entries",
-        "Prints a driver's entries, also those withdrawn",
-        &["archive", "driver"],
-        Act::AtDesk(Want::Reading(Reading::Entries)),
-    ),
-    (
-        "file",
-        "Prints a card file as it was imported",
-        &["archive", "driver", "number"],
-        Act::AtDesk(Want::File),
-    ),
-    (
-        "files",
-        "Prints a driver's card files, one per line: number, part, length in bytes, first minute, past, and SHA-256",
-        &["archive", "driver"],
-        Act::AtDesk(Want::Reading(Reading::Files)),
-    ),
-    (
-        "drivers",
-        "Prints the drivers, one per line: number, holder, base, how many card files and entries, and name",
-        &["archive"],
-        Act::AtDesk(Want::Drivers),
-    ),
-    (
-        "stretches",
-        "Prints a driver's breaches by all examinations, and what isn't examined",
-        &["archive", "driver"],
-        Act::AtDesk(Want::Reading(Reading::Stretches)),
-    ),
-    (
-        "debts",
-        "Prints the rest that a driver owes or has paid, by all examinations",
-        &["archive", "driver"],
-        Act::AtDesk(Want::Reading(Reading::Debts)),
-    ),
-    (
-        "overview",
-        "Prints a month of all drivers as CSV: what is held, how much of it is examined, and how many breaches there are of each rule",
-        &["archive", "month"],
-        Act::AtDesk(Want::MonthOfAll(MonthOfAll::Overview)),
-    ),
-    (
-        "incidents",
-        "Prints the breaches of a month of all drivers as CSV",
-        &["archive", "month"],
-        Act::AtDesk(Want::MonthOfAll(MonthOfAll::Incidents)),
-    ),
-    (
-        "form",
-        "Prints a driver's gaps as CSV, to fill in and enter",
-        &["archive", "driver"],
-        Act::AtDesk(Want::Reading(Reading::Form)),
-    ),
-    (
-        "serve",
-        "Answers COUNT connections on PORT of 127.0.0.1, one request each: the office's with KEY, drivers' with their own keys",
-        &["archive", "key", "port", "count"],
-        Act::Serve,
-    ),
-    (
-        "listen",
-        "Does the same as serve, with the office's key from its input: tacho listen ARCHIVE PORT COUNT < FILE, where FILE has the key as its only line",
-        &["archive", "port", "count"],
-        Act::Listen,
-    ),
-    (
-        "version",
-        "Prints the version of this program, the schema of the archives that it makes, and the kit that has proved it",
-        &[],
-        Act::Version,
-    ),
-];
 
 /// The greatest port; below, the greatest number of connections to answer.
 const LAST_PORT: u32 = 65_535;
@@ -285,15 +93,15 @@ fn leaf<'a>(
 /// The command of a table.
 fn command_of<'a>(alloc: Global, table: &[Row]) -> Result<Command<'a>, AllocError>
     ensures { IfOk result (λ c. app_of c ≡ with_table (needs_subcommand (new_app (codes "tacho")))
-        (map (λ row. (row.0.now, map (λ s. s.now) row.2.now, row.3)) table.now)) }
+        (map row_of table.now)) }
 {
     let mut command = Command::new(alloc, "tacho")
         .about(
             "Archives the hours that driver cards record, and checks them against the rules on driving and rest",
         )
         .subcommand_required(true);
-    for (name, about, ids, _) in table {
-        let leaf = leaf(alloc, *name, *about, *ids)?;
+    for row in table {
+        let leaf = leaf(alloc, row.name, row.about, row.words)?;
         command = command.subcommand(leaf)?;
     }
     Ok(command)
@@ -303,16 +111,16 @@ fn command_of<'a>(alloc: Global, table: &[Row]) -> Result<Command<'a>, AllocErro
 fn tacho<'a>(alloc: Global) -> Result<Command<'a>, AllocError>
     ensures { IfOk result (λ command. app_of command ≡ tacho_app) }
 {
-    command_of(alloc, TABLE.as_slice())
+    command_of(alloc, command_table())
 }
 
 /// What the subcommand with a name does, according to a table.
 fn act_in(table: &[Row], name: &str) -> Option<Act>
-    ensures { result ≡ act_named name.now (map (λ row. (row.0.now, map (λ s. s.now) row.2.now, row.3)) table.now) }
+    ensures { result ≡ act_named name.now (map row_of table.now) }
 {
-    for (known, _, _, act) in table {
-        if *known == name {
-            return Some(*act);
+    for row in table {
+        if row.name == name {
+            return Some(row.act);
         }
     }
     None
@@ -320,9 +128,9 @@ fn act_in(table: &[Row], name: &str) -> Option<Act>
 
 /// What the subcommand with a name does.
 fn act_of(name: &str) -> Option<Act>
-    ensures { result ≡ act_named name.now subcommands }
+    ensures { result ≡ act_named name.now all_commands }
 {
-    act_in(TABLE.as_slice(), name)
+    act_in(command_table(), name)
 }
 
 /// The text of an argument.

@@ -105,6 +105,7 @@ refusals (task.Reading n text) input s f after h = reading_stays text n s (Err f
 refusals (task.MonthReading n month text) input s f after h = month_stays text month n s (Err f) after h
 refusals (task.File n number) input s f after h = h.1
 refusals task.Drivers input s f after h = h.1
+refusals task.Version input s f after h = h.1
 refusals (task.MonthOfAll month text) input s f after h = all_stays text month s (Err f) after h
 
 -- ---- rows
@@ -264,6 +265,7 @@ same_answers n (task.MonthReading m month text) theirs input s other e answer af
     at_number n m theirs s other (ShowsMonth text month m) answer after (λ same. month_same text month m s other same answer after h) e
 same_answers n (task.File m number) theirs input s other e answer after h =
     at_number n m theirs s other (ShowsFile m number) answer after (λ same. lists_same _ _ m s other same answer after h) e
+same_answers n task.Version theirs input s other e answer after h = (other, (h.0, refl), ap (driver_of n) h.1 ∙ e)
 same_answers n task.Register theirs input s other e answer after h = absurd theirs
 same_answers n (task.Enter m) theirs input s other e answer after h = absurd theirs
 same_answers n (task.Withdraw m number) theirs input s other e answer after h = absurd theirs
@@ -281,6 +283,7 @@ others_stay n (task.Reading k text) theirs input s answer after h m other = ap (
 others_stay n (task.MonthReading k month text) theirs input s answer after h m other =
     ap (driver_of m) (month_stays text month k s answer after h)
 others_stay n (task.File k number) theirs input s answer after h m other = ap (driver_of m) h.1
+others_stay n task.Version theirs input s answer after h m other = ap (driver_of m) h.1
 others_stay n task.Register theirs input s answer after h m other = absurd theirs
 others_stay n (task.Enter k) theirs input s answer after h m other = absurd theirs
 others_stay n (task.Withdraw k number) theirs input s answer after h m other = absurd theirs
@@ -407,6 +410,7 @@ module _ (one_content : (p : Part) (bytes : List ℕ) (a b : Result Content Card
   one_answer n (task.Reading m text) theirs input s a b after left h k = one_reading text m s a b after left h k
   one_answer n (task.MonthReading m month text) theirs input s a b after left h k = one_month text month m s a b after left h k
   one_answer n (task.File m number) theirs input s a b after left h k = one_listed _ s (file_reading m number s) a b after left h k
+  one_answer n task.Version theirs input s a b after left h k = (h.0 ∙ sym k.0, h.1 ∙ sym k.1)
   one_answer n task.Register theirs input s a b after left h k = absurd theirs
   one_answer n (task.Enter m) theirs input s a b after left h k = absurd theirs
   one_answer n (task.Withdraw m number) theirs input s a b after left h k = absurd theirs

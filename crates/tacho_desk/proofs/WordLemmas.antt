@@ -64,4 +64,5 @@ task_once want.File c driver word a b x y =
     driver_once c driver (λ n. ByNumber most_number word (λ k w. w ≡ Ok (task.File n k)))
     (λ n. number_once word (λ k w. w ≡ Ok (task.File n k)) (λ k a b i j. i ∙ sym j)) a b x y
 task_once want.Drivers c driver word a b x y = x ∙ sym y
+task_once want.Version c driver word a b x y = x ∙ sym y
 task_once (want.MonthOfAll text) c driver word a b x y = x ∙ sym y

@@ -8,12 +8,13 @@ use Rattle.tacho_desk.specs.declared.fault.Fault.{Fault}
 use Rattle.tacho_desk.specs.declared.task.Task.{Task}
 use Rattle.tacho_desk.specs.declared.task.Task.TheVariants as task
 
--- a driver's own task: the import of their card, or a reading of what they have
+-- a driver's own task: the import of their card, a reading of what they have, or the version
 abbrev pub IsHis : ℕ → Task → Type 0
 IsHis n (task.Import (caller.Driver m) part) = m ≡ n
 IsHis n (task.Reading m text) = m ≡ n
 IsHis n (task.MonthReading m month text) = m ≡ n
 IsHis n (task.File m number) = m ≡ n
+IsHis n task.Version = Unit {0}
 IsHis n t = ⊥
 
 -- if two states have the same rows of a driver, each answer of the driver's own task in one state is an answer in the other, and the

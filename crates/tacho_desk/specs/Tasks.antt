@@ -36,6 +36,7 @@ use Rattle.tacho_sheet.specs.Text.{entry_line, file_line, summary_line}
 use Rattle.tacho_sheet.specs.Why.{IsMonthWhy}
 use Rattle.tacho_desk.specs.Doing.{Doing, IsText, Lists, Refuses, Shows, Steps}
 use Rattle.tacho_desk.specs.Fault.{sheet_fault, fault_of_store}
+use Rattle.tacho_desk.specs.Version.{version_text}
 use Rattle.tacho_desk.specs.Told.{Told, Added, Line, Long, File}
 use Rattle.tacho_desk.specs.declared.fault.Fault.{Fault}
 use Rattle.tacho_desk.specs.declared.task.Task.{Task}
@@ -142,6 +143,10 @@ abbrev pub ShowsDrivers : State → Doing
 ShowsDrivers s answer after =
     IsText (λ text. (summaries : List Summary) × AreSummaries s summaries × (text ≡ flat_map summary_line summaries)) answer × (after ≡ s)
 
+-- the version of the program
+abbrev pub ShowsVersion : State → Doing
+ShowsVersion s = Lists Long s (Ok version_text)
+
 -- the texts of the listed drivers, in sequence
 abbrev pub AreOfEach : (Summary → Driver → List ℕ → Type 0) → State → List Summary → List ℕ → Type 0
 AreOfEach Is s [] text = text ≡ []
@@ -176,6 +181,7 @@ want_of (task.Reading n text) = want.Reading text
 want_of (task.MonthReading n m text) = want.MonthReading text
 want_of (task.File n number) = want.File
 want_of task.Drivers = want.Drivers
+want_of task.Version = want.Version
 want_of (task.MonthOfAll m text) = want.MonthOfAll text
 
 -- what a task answers for its input, and the state after it
@@ -190,6 +196,7 @@ Does (task.Reading n text) input s = ShowsReading text n s
 Does (task.MonthReading n m text) input s = ShowsMonth text m n s
 Does (task.File n number) input s = ShowsFile n number s
 Does task.Drivers input s = ShowsDrivers s
+Does task.Version input s = ShowsVersion s
 Does (task.MonthOfAll m text) input s = ShowsMonthOfAll text m s
 
 -- ---- inputs

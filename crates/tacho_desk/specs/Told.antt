@@ -21,6 +21,7 @@ bytes_of (File bytes) = bytes
 abbrev pub told_text : Text → Told
 told_text (text.Added line) = Added line.items
 told_text (text.Line line) = Line line.items
+told_text (text.Fixed bytes) = Long bytes.now
 told_text (text.Long string) = Long (string_bytes string)
 told_text (text.File bytes) = File bytes.items
 

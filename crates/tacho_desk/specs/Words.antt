@@ -79,4 +79,5 @@ IsTask (want.MonthReading text) c driver word wanted =
 IsTask want.File c driver word wanted =
     ByDriver c driver (λ n. ByNumber most_number word (λ k w. w ≡ Ok (task.File n k))) wanted
 IsTask want.Drivers c driver word wanted = wanted ≡ Ok task.Drivers
+IsTask want.Version c driver word wanted = wanted ≡ Ok task.Version
 IsTask (want.MonthOfAll text) c driver word wanted = wanted ≡ by_time (month_at word) (λ month. Ok (task.MonthOfAll month text))

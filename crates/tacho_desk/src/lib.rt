@@ -8,6 +8,8 @@ mod commands;
 mod fault;
 pub mod laws;
 mod readings;
+mod release;
+mod table;
 mod task;
 mod text;
 mod want;
@@ -15,6 +17,8 @@ mod words;
 
 pub use base::BaseDay;
 pub use fault::Fault;
+pub use release::version_text;
+pub use table::{Act, Command, command_table};
 pub use task::{Task, carry_out};
 pub use text::Text;
 pub use want::{MonthOfAll, MonthReading, Reading, Want};

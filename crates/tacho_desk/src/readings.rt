@@ -2,12 +2,13 @@
 
 ghost use Rattle.std.specs.Prelude.{false};
 ghost use Rattle.tacho_desk.specs.Doing.{IsOfArchive, Serves};
-ghost use Rattle.tacho_desk.specs.Tasks.{ShowsDrivers, ShowsFile, ShowsMonth, ShowsReading};
+ghost use Rattle.tacho_desk.specs.Tasks.{ShowsDrivers, ShowsFile, ShowsMonth, ShowsReading, ShowsVersion};
 ghost use Rattle.tacho_desk.specs.Told.{answer_of};
 ghost use Rattle.tacho_desk.specs.declared.want.MonthReading.TheVariants as of_month;
 ghost use Rattle.tacho_desk.specs.declared.want.Reading.TheVariants as reading;
 
 use crate::fault::Fault;
+use crate::release::version_text;
 use crate::text::Text;
 use crate::want::{MonthReading, Reading};
 use std::alloc::Global;
@@ -208,6 +209,16 @@ pub(crate) fn file<K: Keeper>(
     ensures archive { IsOfArchive (answer_of result) }
 {
     Ok(Text::File(keeper.download(alloc, driver, number)?))
+}
+
+/// Answers with the version of the program. A reading that is done shows that the archive can be read, so the archive is asked for a driver,
+/// whom no empty key names.
+pub(crate) fn version<K: Keeper>(keeper: &mut K) -> Result<Text, Fault>
+    ensures serves { Serves K.stands K.is_clean K.is_live K.leaves K.is_same keeper.old keeper.new false (answer_of result) ShowsVersion }
+    ensures archive { IsOfArchive (answer_of result) }
+{
+    keeper.who(&[])?;
+    Ok(Text::Fixed(version_text()))
 }
 
 /// Writes the list of all drivers.

@@ -64,6 +64,8 @@ pub enum Task {
     },
     /// Lists all drivers.
     Drivers,
+    /// Reads the version of the program.
+    Version,
 }
 
 /// Does a task at an archive, with its input. A refusal, running out of memory, and a store failure leave the state as it was. What a
@@ -95,5 +97,6 @@ pub fn carry_out<K: Keeper>(
         Task::MonthOfAll { month, reading } => all::show_month(alloc, keeper, month, reading),
         Task::File { driver, number } => readings::file(alloc, keeper, driver, number),
         Task::Drivers => readings::drivers(alloc, keeper),
+        Task::Version => readings::version(keeper),
     }
 }

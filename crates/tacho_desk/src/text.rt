@@ -7,6 +7,8 @@ pub enum Text {
     Added(DoneLine),
     /// The line of a command that added nothing. Allocates no memory.
     Line(DoneLine),
+    /// A text that is always the same. Allocates no memory.
+    Fixed(&'static [u8]),
     /// A text.
     Long(String),
     /// The bytes of a file.
@@ -24,6 +26,7 @@ impl Text {
         match self {
             Text::Added(line) => line.as_slice(),
             Text::Line(line) => line.as_slice(),
+            Text::Fixed(text) => text,
             Text::Long(text) => text.as_bytes(),
             Text::File(bytes) => bytes.as_slice(),
         }

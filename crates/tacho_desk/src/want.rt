@@ -23,6 +23,8 @@ pub enum Want {
     File,
     /// List all drivers.
     Drivers,
+    /// Read the version of the program.
+    Version,
 }
 
 /// A text about a driver.
@@ -70,7 +72,7 @@ pub enum MonthOfAll {
 
 impl Want {
     ghost use Rattle.std.specs.Prelude.{◌≡◌};
-    ghost use Rattle.tacho_desk.specs.Wants.{takes_input as has_input};
+    ghost use Rattle.tacho_desk.specs.Wants.{is_command, takes_input as has_input};
 
     /// Whether the task has an input: a text of CSV, a card file or a key.
     pub fn takes_input(self) -> bool
@@ -80,5 +82,12 @@ impl Want {
             self,
             Want::Register | Want::Import | Want::Enter | Want::Key
         )
+    }
+
+    /// Whether the task changes the archive.
+    pub fn changes(self) -> bool
+        ensures { result ≡ is_command self }
+    {
+        self.takes_input() || matches!(self, Want::Withdraw | Want::Base)
     }
 }

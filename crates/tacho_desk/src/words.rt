@@ -117,6 +117,7 @@ pub fn task_of(want: Want, caller: Caller, driver: &[u8], word: &[u8]) -> Result
             (Err(fault), _) | (_, Err(fault)) => Err(fault),
         },
         Want::Drivers => Ok(Task::Drivers),
+        Want::Version => Ok(Task::Version),
         Want::MonthOfAll(reading) => {
             let month = Month::read(word)?;
             Ok(Task::MonthOfAll { month, reading })

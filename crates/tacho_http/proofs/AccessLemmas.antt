@@ -1,6 +1,7 @@
 -- What is true of each place in the table is true of the place that a path names. So a driver is granted only the driver's own tasks, and
 -- whatever is posted is a command.
-use Rattle.std.proofs.Common.{◌≡◌, ◌-◌, ◌∷◌, ◌==◌, ltb, ℕ, zero, suc, Bool, true, false, cond, List, [], length, Option, None, Some, IfSome, Result, Ok, Err, IfOk, not, option_map, refl, subst, if◌then◌else◌}
+use Rattle.std.proofs.Common.{◌≡◌, ◌-◌, ◌∷◌, ◌==◌, ltb, ℕ, zero, suc, Bool, true, false, cond, List, [], length, Option, None, Some, IfSome, Result, Ok, Err, IfOk, option_map, refl, subst, if◌then◌else◌}
+use Rattle.std.specs.Prelude.{flat_map}
 use Rattle.matchit.specs.Order.{placed}
 use Rattle.matchit.specs.Route.{Scan, parse_route}
 use Rattle.matchit.specs.Router.{RouteOf}
@@ -15,8 +16,8 @@ use Rattle.tacho_message.specs.declared.method.Method.TheVariants as method
 use Rattle.tacho_message.specs.declared.reply.Status.{Status}
 use Rattle.tacho_message.specs.declared.reply.Status.TheVariants as status
 use Rattle.tacho_http.specs.Access.{OwnWants, PostsAreCommands}
-use Rattle.tacho_http.specs.Asked.{Wish, wish_granted, is_post, same_asker, wish_at, wish_of}
-use Rattle.tacho_http.specs.Routes.{Named, Rows, TableRow, named_at, named_by, rows_of_table, all_routes, with_read, with_route, with_row, with_rows}
+use Rattle.tacho_http.specs.Asked.{Wish, wish_granted, is_post, same_asker, wish_at, wish_by, wish_of}
+use Rattle.tacho_http.specs.Routes.{Named, Offer, Rows, all_routes, named_by, named_in, offered, routes, with_offers, with_read}
 use Rattle.tacho_http.specs.declared.places.Asker.{Asker}
 use Rattle.tacho_http.specs.declared.places.Asker.TheVariants.{Driver}
 use Rattle.tacho_http.specs.declared.places.Place.{Place}
@@ -89,7 +90,7 @@ module _ {K : Type 0} (P : K → Type 0) where
       by true ih = (h, g)
       by false ih = (g.0, ih)
 
--- ---- a path names a place of the table
+-- ---- a path names a place of the tables
 
 module _ (P : Place → Type 0) where
   abbrev InRows : Rows → Type 0
@@ -100,122 +101,103 @@ module _ (P : Place → Type 0) where
   in_read rows place (Ok s) h g = in_placed (λ route. P route.value) s.pattern _ rows h g
   in_read rows place (Err e) h g = g
 
-  -- the routes of a table
-  in_table : (rows : Rows) (table : List TableRow) → AllKeys P table → InRows rows → InRows (rows_of_table rows table)
-  unfolding rows_of_table
-  in_table rows [] h g = g
-  in_table rows ((path, place) ∷ table) h g = in_table (with_route rows (path, place)) table h.1 (in_read rows place (parse_route path) h.0 g)
+  -- the routes of offers
+  in_offers : (rows : Rows) (offers : List Offer) → AllKeys P offers → InRows rows → InRows (with_offers rows offers)
+  unfolding with_offers
+  in_offers rows [] h g = g
+  in_offers rows ((path, place) ∷ more) h g = in_offers (with_read rows place (parse_route path)) more h.1 (in_read rows place (parse_route path) h.0 g)
 
   -- with the arguments in the path
   in_named : (path : List ℕ) (found : Option (RouteOf Place)) → IfSome found (λ route. P route.value) → IfSome (option_map (named_by path) found) (λ named. P named.place)
   in_named path None h = tt
   in_named path (Some route) h = h
 
-  -- what is true of each place in the table is true of the place that a path names
-  in_route : (path : List ℕ) → AllKeys P all_routes → IfSome (named_at path) (λ named. P named.place)
-  in_route path h = in_named path _ (in_seek (λ route. P route.value) 0 (rows_of_table [] all_routes) path (in_table [] all_routes h tt))
+  -- what is true of each place where a method is offered is true of the place that a path names for the method
+  in_route : (m : Method) (path : List ℕ) → AllKeys P (flat_map (offered m) all_routes) → IfSome (named_in (routes m) path) (λ named. P named.place)
+  unfolding routes
+  in_route m path h = in_named path _ (in_seek (λ route. P route.value) 0 (routes m) path (in_offers [] (flat_map (offered m) all_routes) h tt))
 
--- ---- what is granted at a place, by what it offers
+-- ---- what is granted at a place
 
--- the test holds for what is granted
-abbrev Grants : (Want → Bool) → Result Wish Status → Type 0
-Grants holds answer = IfOk answer (λ w. holds w.want ≡ true)
+-- what is granted meets P
+abbrev Grants : (Want → Type 0) → Result Wish Status → Type 0
+Grants P answer = IfOk answer (λ w. P w.want)
 
--- the test holds for what is offered, if it is offered to the asker
-abbrev fits : (Want → Bool) → Bool → Option Want → Bool
-fits holds mine None = true
-fits holds false (Some want) = true
-fits holds true (Some want) = holds want
+-- what is at a place meets P, if the place is for the asker
+abbrev Fits : (Want → Type 0) → Asker → Place → Type 0
+Fits P a place = same_asker a place.asker ≡ true → P place.want
 
--- what is granted is what is offered
-of_offer : (holds : Want → Bool) (a : Asker) (named : Named) (offer : Option Want) → fits holds (same_asker a named.place.asker) offer ≡ true
-    → Grants holds (wish_granted a named offer)
-of_offer holds a named None h = tt
-of_offer holds a named (Some want) h = by (same_asker a named.place.asker) h
+-- so does what is granted there
+of_named : (P : Want → Type 0) (a : Asker) (named : Named) → Fits P a named.place → Grants P (wish_granted a named)
+of_named P a named h = by (same_asker a named.place.asker) h
   where
-    by : (b : Bool) → fits holds b (Some want) ≡ true
-        → Grants holds (if b then Ok (record { want = want; driver = named.driver; word = named.word }) else Err status.Forbidden)
-    by true h = h
+    by : (mine : Bool) → (mine ≡ true → P named.place.want)
+        → Grants P (if mine then Ok (record { want = named.place.want; driver = named.driver; word = named.word }) else Err status.Forbidden)
+    by true h = h refl
     by false h = tt
+
+-- what is granted is what the path names for the method
+of_names : (P : Want → Type 0) (a : Asker) (found other : Option Named) → IfSome found (λ named. Fits P a named.place) → Grants P (wish_at a found other)
+of_names P a (Some named) other h = of_named P a named h
+of_names P a None (Some named) h = tt
+of_names P a None None h = tt
+
+-- by another method nothing is granted
+of_none : (P : Want → Type 0) (a : Asker) (get post : Option Named) → Grants P (wish_by a None get post)
+of_none P a None None = tt
+of_none P a None (Some named) = tt
+of_none P a (Some named) post = tt
 
 -- ---- a driver is granted only their own tasks
 
-abbrev IsFit : Place → Type 0
-IsFit place = (fits is_own (same_asker Driver place.asker) place.get ≡ true) × (fits is_own (same_asker Driver place.asker) place.post ≡ true)
+abbrev IsOwn : Want → Type 0
+IsOwn want = is_own want ≡ true
 
--- each row of the table does so
-each_fits : AllKeys IsFit all_routes
-unfolding all_routes with_rows with_row
-each_fits = assumption refl
+each_got : AllKeys (Fits IsOwn Driver) (flat_map (offered method.Get) all_routes)
+each_got = assumption refl
 
--- at a place
-at_place : (m : Option Method) (found : Option Named) → IfSome found (λ named. IsFit named.place) → Grants is_own (wish_at Driver m found)
-at_place m None h = tt
-at_place None (Some named) h = tt
-at_place (Some method.Get) (Some named) h = of_offer is_own Driver named named.place.get h.0
-at_place (Some method.Post) (Some named) h = of_offer is_own Driver named named.place.post h.1
+each_posted : AllKeys (Fits IsOwn Driver) (flat_map (offered method.Post) all_routes)
+each_posted = assumption refl
 
--- and so at any path
 pub own_wants : OwnWants
-own_wants text path w e = subst (Grants is_own) e (at_place (method_of text) (named_at path) (in_route IsFit path each_fits))
+own_wants text path w e = subst (Grants IsOwn) e (by (method_of text))
+  where
+    by : (m : Option Method) → Grants IsOwn (wish_by Driver m (named_in (routes method.Get) path) (named_in (routes method.Post) path))
+    by None = of_none IsOwn Driver _ _
+    by (Some method.Get) = of_names IsOwn Driver _ _ (in_route (Fits IsOwn Driver) method.Get path each_got)
+    by (Some method.Post) = of_names IsOwn Driver _ _ (in_route (Fits IsOwn Driver) method.Post path each_posted)
 
--- ---- what is posted is a command, whoever asks
+-- ---- what is posted is a command, and what isn't posted is a reading, whoever asks
 
-abbrev Posts : Place → Type 0
-Posts place = fits is_command true place.post ≡ true
+abbrev IsPostedOr : Bool → Place → Type 0
+IsPostedOr posted place = is_command place.want ≡ posted
 
--- in each row of the table, only commands are posted
-each_posts : AllKeys Posts all_routes
-unfolding all_routes with_rows with_row
-each_posts = assumption refl
+each_command : AllKeys (IsPostedOr true) (flat_map (offered method.Post) all_routes)
+each_command = assumption refl
 
--- the test also holds if the place is for the other asker
-fits_more : (holds : Want → Bool) (mine : Bool) (offer : Option Want) → fits holds true offer ≡ true → fits holds mine offer ≡ true
-fits_more holds true offer h = h
-fits_more holds false None h = refl
-fits_more holds false (Some want) h = refl
+each_reading : AllKeys (IsPostedOr false) (flat_map (offered method.Get) all_routes)
+each_reading = assumption refl
 
--- at a place, a POST is granted only commands
-posted_at : (a : Asker) (m : Option Method) (found : Option Named) → is_post m ≡ true → IfSome found (λ named. Posts named.place) → Grants is_command (wish_at a m found)
-posted_at a m None posts h = tt
-posted_at a None (Some named) posts h = tt
-posted_at a (Some method.Get) (Some named) posts h = cc
-posted_at a (Some method.Post) (Some named) posts h =
-    of_offer is_command a named named.place.post (fits_more is_command (same_asker a named.place.asker) named.place.post h)
+-- a place that fits whoever asks fits the asker
+fits : (P : Want → Type 0) (a : Asker) (found : Option Named) → IfSome found (λ named. P named.place.want) → IfSome found (λ named. Fits P a named.place)
+fits P a None h = tt
+fits P a (Some named) h = λ _. h
 
--- and so at any path
 pub posts_are_commands : PostsAreCommands
-posts_are_commands a text path w e posts = subst (Grants is_command) e (posted_at a (method_of text) (named_at path) posts (in_route Posts path each_posts))
+posts_are_commands a text path w e posts = subst (Grants (λ want. is_command want ≡ true)) e (by (method_of text) posts)
+  where
+    by : (m : Option Method) → is_post m ≡ true
+        → Grants (λ want. is_command want ≡ true) (wish_by a m (named_in (routes method.Get) path) (named_in (routes method.Post) path))
+    by None is = cc
+    by (Some method.Get) is = cc
+    by (Some method.Post) is = of_names _ a _ _ (fits (λ want. is_command want ≡ true) a _ (in_route (IsPostedOr true) method.Post path each_command))
 
--- ---- commands are posted, whoever asks
-
-abbrev is_reading : Want → Bool
-is_reading want = not (is_command want)
-
-abbrev Reads : Place → Type 0
-Reads place = fits is_reading true place.get ≡ true
-
--- in each row of the table, a GET is offered only readings
-each_reads : AllKeys Reads all_routes
-unfolding all_routes with_rows with_row
-each_reads = assumption refl
-
--- at a place, a request other than POST is granted only readings
-read_at : (a : Asker) (m : Option Method) (found : Option Named) → is_post m ≡ false → IfSome found (λ named. Reads named.place)
-    → Grants is_reading (wish_at a m found)
-read_at a m None reads h = tt
-read_at a None (Some named) reads h = tt
-read_at a (Some method.Get) (Some named) reads h =
-    of_offer is_reading a named named.place.get (fits_more is_reading (same_asker a named.place.asker) named.place.get h)
-read_at a (Some method.Post) (Some named) reads h = cc
-
--- a reading isn't a command
-no_command : (command : Bool) → not command ≡ true → command ≡ false
-no_command false reads = refl
-no_command true reads = cc
-
--- and so at any path
 pub commands_are_posts : (a : Asker) (text path : List ℕ) (w : Wish) → wish_of a text path ≡ Ok w → is_post (method_of text) ≡ false
     → is_command w.want ≡ false
-commands_are_posts a text path w e is =
-    no_command (is_command w.want) (subst (Grants is_reading) e (read_at a (method_of text) (named_at path) is (in_route Reads path each_reads)))
+commands_are_posts a text path w e is = subst (Grants (λ want. is_command want ≡ false)) e (by (method_of text) is)
+  where
+    by : (m : Option Method) → is_post m ≡ false
+        → Grants (λ want. is_command want ≡ false) (wish_by a m (named_in (routes method.Get) path) (named_in (routes method.Post) path))
+    by None is = of_none _ a _ _
+    by (Some method.Get) is = of_names _ a _ _ (fits (λ want. is_command want ≡ false) a _ (in_route (IsPostedOr false) method.Get path each_reading))
+    by (Some method.Post) is = cc

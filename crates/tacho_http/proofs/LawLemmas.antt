@@ -148,6 +148,7 @@ task_is_own want.Withdraw n driver word t own is = cc
 task_is_own want.Base n driver word t own is = cc
 task_is_own want.Key n driver word t own is = cc
 task_is_own want.Drivers n driver word t own is = cc
+task_is_own want.Version n driver word t own is = plain_is_own n t task.Version tt is
 task_is_own (want.MonthOfAll text) n driver word t own is = cc
 
 -- a request with a driver's key is that driver's request

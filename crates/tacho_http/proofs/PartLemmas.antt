@@ -15,7 +15,9 @@ use Rattle.matchit.specs.Router.{RouteOf}
 use Rattle.matchit.specs.Rows.{RowsOf, catch_all_token, param_token}
 use Rattle.matchit.specs.Seek.{better, first, has_slash, longest_from, longest_suffix, or_else, own, param_step, same_text, seek, segment, step, with_suffix}
 use Rattle.matchit.proofs.OnLiterals.{matchit_on_literals}
-use Rattle.tacho_http.specs.Routes.{Rows, rows_of_table, all_routes, with_row, with_rows}
+use Rattle.tacho_message.specs.declared.method.Method.{Method}
+use Rattle.tacho_message.specs.declared.method.Method.TheVariants as method
+use Rattle.tacho_http.specs.Routes.{Rows, routes, with_offers}
 use Rattle.tacho_http.specs.declared.places.Place.{Place}
 
 -- ---- which paths the tokens of a pattern match
@@ -483,18 +485,18 @@ fit_leads path ((tokens, route) ∷ rest) h =
       fit_leads path rest one.1,
     )
 
--- the table's rows are fit
-table_is_fit : are_fit (rows_of_table [] all_routes) ≡ true
-unfolding matchit_on_literals all_routes with_rows with_row rows_of_table is_utf8 chars encode
-table_is_fit = refl
+-- the rows of each method are fit
+rows_are_fit : (m : Method) → are_fit (routes m) ≡ true
+unfolding matchit_on_literals routes with_offers is_utf8 chars encode
+rows_are_fit method.Get = refl
+rows_are_fit method.Post = refl
 
 -- the parts in braces match valid UTF-8 in a valid path
-pub parts_are_text : (path : List ℕ) → IsUtf8 path → (route : RouteOf Place) → first (rows_of_table [] all_routes) path ≡ Some route
+pub parts_are_text : (m : Method) (rows : Rows) → rows ≡ routes m → (path : List ℕ) → IsUtf8 path → (route : RouteOf Place) → first rows path ≡ Some route
     → AllText (walk route.pattern route.text path route.names 0 0)
-parts_are_text path utf8 route e =
-    let rows = rows_of_table [] all_routes in
+parts_are_text m rows is path utf8 route e =
     let found : IfSome (first rows path) (IsRead path) =
-    seek_leads (IsRead path) 0 rows path (utf8_is_bytes path utf8) (fit_leads path rows table_is_fit) in
+    seek_leads (IsRead path) 0 rows path (utf8_is_bytes path utf8) (fit_leads path rows (ap are_fit is ∙ rows_are_fit m)) in
     let read : IsRead path route = subst (λ (o : Option (RouteOf Place)). IfSome o (IsRead path)) e found in
     walk_is_text route.pattern path utf8 read.short route.text route.names route.pattern 0 0 read.names (record {
       left = refl;

@@ -34,9 +34,9 @@ use Rattle.tacho_message.specs.declared.method.Method.TheVariants as method
 use Rattle.tacho_message.specs.declared.reply.Status.{Status}
 use Rattle.tacho_message.specs.declared.reply.Status.TheVariants as status
 use Rattle.tacho_http.specs.Answer.{Answered, AnswersInput, Asks, Exchanged, HasRepliedOrFailed, HasReplied, IsBegun, IsPosted, IsUndone, IsUnfinished, IsWritten, LacksMore, MayAsk, Responds, CrashMayLeaveResult, CrashMayLeaveReply, is_done}
-use Rattle.tacho_http.specs.Asked.{Wish, asker_of, wish_granted, is_post, want_at, same_asker, wish_at, wish_of}
+use Rattle.tacho_http.specs.Asked.{Wish, asker_of, wish_granted, is_post, same_asker, wish_at, wish_by, wish_of}
 use Rattle.tacho_http.specs.Reply.{Reply, fault_reply, reply_of_status, reply_of, reply_to}
-use Rattle.tacho_http.specs.Routes.{Named, named_at}
+use Rattle.tacho_http.specs.Routes.{Named, named_in, routes}
 use Rattle.tacho_http.specs.declared.places.Asker.{Asker}
 use Rattle.tacho_desk.specs.Wants.{takes_input}
 use Rattle.tacho_desk.specs.declared.want.Want.{Want}
@@ -230,15 +230,21 @@ either : {A : Type 0} (b : Bool) (x y : Result A Status) → Refuses x → Refus
 either true x y h k = h
 either false x y h k = k
 
--- 405 and 403
-refuses_granted : (a : Asker) (named : Named) (offer : Option Want) → Refuses (wish_granted a named offer)
-refuses_granted a named None = refl
-refuses_granted a named (Some want) = either (same_asker a named.place.asker) _ _ tt refl
+-- 403
+refuses_granted : (a : Asker) (named : Named) → Refuses (wish_granted a named)
+refuses_granted a named = either (same_asker a named.place.asker) _ _ tt refl
 
--- and 404
-refuses_wish : (a : Asker) (m : Option Method) (found : Option Named) → Refuses (wish_at a m found)
-refuses_wish a m None = refl
-refuses_wish a m (Some named) = refuses_granted a named (want_at m named.place)
+-- 405 and 404
+refuses_at : (a : Asker) (found other : Option Named) → Refuses (wish_at a found other)
+refuses_at a (Some named) other = refuses_granted a named
+refuses_at a None (Some other) = refl
+refuses_at a None None = refl
+
+refuses_wish : (a : Asker) (m : Option Method) (get post : Option Named) → Refuses (wish_by a m get post)
+refuses_wish a (Some method.Get) get post = refuses_at a get post
+refuses_wish a (Some method.Post) get post = refuses_at a post get
+refuses_wish a None None post = refuses_at a None post
+refuses_wish a None (Some named) post = refl
 
 -- a length that can't be read, is too large, or isn't 0 although no body is taken
 refuses_within : (takes : Bool) (told : Option ℕ) → Refuses (body_within takes told)
@@ -264,8 +270,8 @@ refuses_length (Some method.Get) takes fields = tt
 refuses_length None takes fields = tt
 
 -- every refusal of what is asked for
-pub wish_refused : (a : Asker) (m : Option Method) (found : Option Named) (refusal : Status) → Err refusal ≡ wish_at a m found → is_done refusal ≡ false
-wish_refused a m found refusal e = subst (λ (r : Result Wish Status). Refuses r) (sym e) (refuses_wish a m found)
+pub wish_refused : (a : Asker) (m : Option Method) (get post : Option Named) (refusal : Status) → Err refusal ≡ wish_by a m get post → is_done refusal ≡ false
+wish_refused a m get post refusal e = subst (λ (r : Result Wish Status). Refuses r) (sym e) (refuses_wish a m get post)
 
 -- every refusal of the length of a body, by the code's result
 pub length_refused : (m : Option Method) (takes : Bool) (fields : List (List ℕ × List ℕ)) (refusal : Status) → Err refusal ≡ body_length m takes fields → is_done refusal ≡ false
@@ -274,13 +280,12 @@ length_refused m takes fields refusal e = subst (λ (r : Result ℕ Status). Ref
 -- ---- what a request asks for, from its parts
 
 -- from the caller, the method and the path
-pub wish_found_by : (c : Caller) (h : RequestHead) (m : Option Method) (text path : List ℕ) (a : Asker) (found : Option Named) (w : Result Wish Status)
-    → m ≡ method_of text → a ≡ asker_of c → found ≡ named_at path → text ≡ h.method → path ≡ h.target → w ≡ wish_at a m found
+pub wish_found_by : (c : Caller) (h : RequestHead) (m : Option Method) (text path : List ℕ) (a : Asker) (get post : Option Named) (w : Result Wish Status)
+    → m ≡ method_of text → a ≡ asker_of c → get ≡ named_in (routes method.Get) path → post ≡ named_in (routes method.Post) path
+    → text ≡ h.method → path ≡ h.target → w ≡ wish_by a m get post
     → wish_of (asker_of c) h.method h.target ≡ w
-wish_found_by c h m text path a found w em ea ef eh et e =
-    sym (e ∙ (ap (λ (x : Asker). wish_at x m found) ea
-    ∙ (ap (λ (x : Option Method). wish_at (asker_of c) x found) (em ∙ ap method_of eh)
-    ∙ ap (λ (x : Option Named). wish_at (asker_of c) (method_of h.method) x) (ef ∙ ap named_at et))))
+wish_found_by c h m text path a get post w em ea eg ep eh et e =
+    rw (e, ea, em, eg, ep, ← eh, ← et) refl
 
 -- the length of its body
 pub length_found : (h : RequestHead) (m : Option Method) (text : List ℕ) (want : Want) (takes : Bool) (fields : List (List ℕ × List ℕ)) (r : Result ℕ Status)

@@ -1,56 +1,106 @@
--- A router with one more route.
-use Rattle.std.proofs.Common.{◌≡◌, ◌<◌, ◌≤◌, ◌+◌, ◌∷◌, ℕ, List, [], Some, Ok, Err, Result, codes, length, map, drop, get_or, refl, arith, suc, zero, add-one, drop-cons}
+-- A router with more routes, and the routes of the table of commands.
+use Rattle.std.proofs.Common.{◌≡◌, ◌∙◌, ◌==◌, ◌<◌, ◌≤◌, ◌+◌, ◌∷◌, ◌++◌, ℕ, Bool, true, false, List, [], Option, None, Some, Ok, Err, Result, codes, length, map, drop, get_or, refl, sym, arith, suc, add-one, drop-cons}
+use Rattle.std.proofs.lemmas.Bool.{eqb-true}
 use Rattle.std.proofs.lemmas.Grind.{common_steps}
-use Rattle.std.proofs.lemmas.List.{length-map}
 use Rattle.std.specs.Prelude.{OnOk}
-use Rattle.matchit.specs.Route.{Scan}
+use Rattle.matchit.proofs.OnLiterals.{matchit_on_literals}
+use Rattle.matchit.specs.Route.{Scan, parse_route}
 use Rattle.matchit.specs.Params.{named}
 use Rattle.matchit.specs.Router.{InsertsRead, RouteOf}
 use Rattle.matchit.specs.Seek.{first}
 use Rattle.matchit.specs.declared.error.InsertError.{InsertError}
+use mathlib.Core.Bool.{beq, not}
+use Rattle.tacho_desk.specs.Commands.{Row, all_commands}
+use Rattle.tacho_desk.specs.Wants.{is_command}
+use Rattle.tacho_desk.specs.declared.want.Want.{Want}
+use Rattle.tacho_http.specs.declared.places.Asker.TheVariants.{Driver, Office}
+use Rattle.tacho_message.specs.declared.method.Method.TheVariants.{Get, Post}
 use Rattle.tacho_http.specs.declared.places.Place.{Place}
-use Rattle.tacho_http.specs.Routes.{Rows, TableRow, named_at, or_empty, parts_of, rows_of_table, all_routes, with_read, with_route}
+use Rattle.tacho_http.specs.Offers.{offer_at, offers_by, offers_in, offers_of}
+use Rattle.tacho_http.specs.Routes.{Offer, Rows, named_in, or_empty, parts_of, routes, with_offers, with_read}
 
 -- a route is added if its text is valid
-pub inserted : (rows after : Rows) (place : Place) (read : Result Scan InsertError) (result : Result (Unit {0}) InsertError)
-    → InsertsRead read place rows after result → OnOk result (after ≡ with_read rows place read)
-inserted rows after place (Ok s) (Ok u) h = h.1
-inserted rows after place (Ok s) (Err e) h = tt
-inserted rows after place (Err e) (Ok u) h = h.0
-inserted rows after place (Err e) (Err x) h = tt
+pub inserted : (rows after : Rows) (place : Place) (path : List ℕ) (read : Result Scan InsertError) (result : Result (Unit {0}) InsertError)
+    → read ≡ parse_route path → InsertsRead read place rows after result → OnOk result (after ≡ with_offers rows ((path, place) ∷ []))
+unfolding with_offers
+inserted rows after place path (Ok s) (Ok u) e h = rw (← e) h.1
+inserted rows after place path (Ok s) (Err x) e h = tt
+inserted rows after place path (Err f) (Ok u) e h = rw (← e) h.0
+inserted rows after place path (Err f) (Err x) e h = tt
 
--- one more row of a table
-pub rows_step : (rows : Rows) (table : List TableRow) (i : ℕ) (d : TableRow) → i < length table
-    → rows_of_table rows (drop i table) ≡ rows_of_table (with_route rows (get_or table i d)) (drop (i + 1) table)
-unfolding rows_of_table
-rows_step rows table i d h = rw (add-one i, drop-cons table i d h) refl
+-- an empty path isn't added
+pub empty_added : (rows : Rows) (place : Place) (path : List ℕ) → true ≡ (length path == 0) → rows ≡ with_offers rows (offer_at path place)
+unfolding with_offers
+empty_added rows place [] e = refl
+empty_added rows place (x ∷ path) e = (let none : length (x ∷ path) ≡ 0 = eqb-true (length (x ∷ path)) 0 (sym e) in absurd (omega (arith, none)))
 
--- an element of a mapped list
-mapped_at : {X Y : Type 0} (f : X → Y) (xs : List X) (i : ℕ) (d : X) (e : Y) → i < length xs → get_or (map f xs) i e ≡ f (get_or xs i d)
-mapped_at f [] i d e h = absurd (omega arith)
-mapped_at f (x ∷ xs) zero d e h = refl
-mapped_at f (x ∷ xs) (suc i) d e h = mapped_at f xs i d e (omega arith)
+-- any other path is
+pub path_added : (rows after : Rows) (place : Place) (path : List ℕ) (result : Result (Unit {0}) InsertError) → false ≡ (length path == 0)
+    → InsertsRead (parse_route path) place rows after result → OnOk result (after ≡ with_offers rows (offer_at path place))
+path_added rows after place [] result e h = cc
+path_added rows after place (x ∷ path) result e h = inserted rows after place (x ∷ path) (parse_route (x ∷ path)) result refl h
 
--- one more row of the code's table
-pub mapped_step : {X : Type 0} (f : X → TableRow) (rows : Rows) (table : List X) (i : ℕ) (d : X) → i < length table
-    → rows_of_table rows (drop i (map f table)) ≡ rows_of_table (with_route rows (f (get_or table i d))) (drop (i + 1) (map f table))
-mapped_step f rows table i d h =
-    let within : i < length (map f table) = rw length-map h in
-    rw (← mapped_at f table i d (f d) h) (rows_step rows (map f table) i (f d) within)
+-- the routes of two lists of offers, one after the other
+pub with_both : (rows : Rows) (a b : List Offer) → with_offers rows (a ++ b) ≡ with_offers (with_offers rows a) b
+unfolding with_offers
+with_both rows [] b = refl
+with_both rows (one ∷ a) b = with_both (with_read rows one.1 (parse_route one.0)) a b
+
+-- nothing is added for a command without a request, or with one by another method
+pub none_added : (rows : Rows) (posted : Bool) (w : Option Want) (office driver : List ℕ) → w ≡ None → rows ≡ with_offers rows (offers_by posted w office driver)
+unfolding with_offers
+none_added rows posted w office driver is = rw is refl
+
+pub other_added : (rows : Rows) (posted changes : Bool) (w : Option Want) (want : Want) (office driver : List ℕ) → w ≡ Some want → changes ≡ is_command want
+    → not (beq changes posted) ≡ true → rows ≡ with_offers rows (offers_by posted w office driver)
+unfolding with_offers
+other_added rows true true w want office driver is e other = cc
+other_added rows false false w want office driver is e other = cc
+other_added rows true false w want office driver is e other = rw (is, ← e) refl
+other_added rows false true w want office driver is e other = rw (is, ← e) refl
+
+-- otherwise both its paths are
+pub both_added : (rows between after : Rows) (posted changes : Bool) (w : Option Want) (want : Want) (office driver : List ℕ) (result : Result (Unit {0}) InsertError)
+    → w ≡ Some want → changes ≡ is_command want → not (beq changes posted) ≡ false
+    → between ≡ with_offers rows (offer_at office (record { asker = Office; want = want }))
+    → OnOk result (after ≡ with_offers between (offer_at driver (record { asker = Driver; want = want })))
+    → OnOk result (after ≡ with_offers rows (offers_by posted w office driver))
+both_added rows between after posted changes w want office driver (Err x) is e same a b = tt
+both_added rows between after true false w want office driver (Ok u) is e same a b = cc
+both_added rows between after false true w want office driver (Ok u) is e same a b = cc
+both_added rows between after true true w want office driver (Ok u) is e same a b =
+    rw (is, ← e) (rw a at b ∙ sym (with_both rows (offer_at office _) (offer_at driver _)))
+both_added rows between after false false w want office driver (Ok u) is e same a b =
+    rw (is, ← e) (rw a at b ∙ sym (with_both rows (offer_at office _) (offer_at driver _)))
+
+-- one more command of a table
+pub offers_step : {X : Type 0} (f : X → Row) (posted : Bool) (rows : Rows) (table : List X) (i : ℕ) (d : X) → i < length table
+    → with_offers rows (offers_in posted (map f (drop i table)))
+    ≡ with_offers (with_offers rows (offers_of posted (f (get_or table i d)))) (offers_in posted (map f (drop (i + 1) table)))
+offers_step f posted rows table i d h =
+    rw (add-one i, drop-cons table i d h) (with_both rows (offers_of posted (f (get_or table i d))) (offers_in posted (map f (drop (suc i) table))))
 
 -- nothing remains after the end of a list
 drop_all : {X : Type 0} (xs : List X) (i : ℕ) → length xs ≤ i → drop i xs ≡ []
 drop_all xs i h = grind (arith, common_steps)
 
 -- nor after the end of a table
-pub rows_end : {X : Type 0} (f : X → TableRow) (rows : Rows) (table : List X) (i : ℕ) → length table ≤ i → rows_of_table rows (drop i (map f table)) ≡ rows
-unfolding rows_of_table
-rows_end f rows table i h =
-    let none : drop i (map f table) ≡ [] = drop_all (map f table) i (rw length-map h) in
-    rw none refl
+pub offers_end : {X : Type 0} (f : X → Row) (posted : Bool) (rows : Rows) (table : List X) (i : ℕ) → length table ≤ i
+    → with_offers rows (offers_in posted (map f (drop i table))) ≡ rows
+unfolding with_offers
+offers_end f posted rows table i h = rw (drop_all table i h) refl
+
+-- the routes of the commands are those of the tables
+pub commands_got : with_offers [] (offers_in false all_commands) ≡ routes Get
+unfolding matchit_on_literals routes with_offers
+commands_got = refl
+
+pub commands_posted : with_offers [] (offers_in true all_commands) ≡ routes Post
+unfolding matchit_on_literals routes with_offers
+commands_posted = refl
 
 -- what a path names, by the route that it matches
-pub names_found : (path : List ℕ) (route : RouteOf Place) (driver word : List ℕ) → first (rows_of_table [] all_routes) path ≡ Some route
+pub names_found : (rows : Rows) (path : List ℕ) (route : RouteOf Place) (driver word : List ℕ) → first rows path ≡ Some route
     → driver ≡ or_empty (named (codes "driver") (parts_of route path)) → word ≡ or_empty (named (codes "word") (parts_of route path))
-    → Some (record { place = route.value; driver = driver; word = word }) ≡ named_at path
-names_found path route driver word is d w = rw (is, d, w) refl
+    → Some (record { place = route.value; driver = driver; word = word }) ≡ named_in rows path
+names_found rows path route driver word is d w = rw (is, d, w) refl

@@ -8,11 +8,10 @@ use Rattle.tacho_message.specs.declared.method.Method.{Method}
 use Rattle.tacho_message.specs.declared.method.Method.TheVariants as method
 use Rattle.tacho_message.specs.declared.reply.Status.{Status}
 use Rattle.tacho_message.specs.declared.reply.Status.TheVariants as status
-use Rattle.tacho_http.specs.Routes.{Named, named_at}
-use Rattle.tacho_http.specs.declared.asked.Asked.{Asked}
+use Rattle.tacho_http.specs.Routes.{Named, named_in, routes}
 use Rattle.tacho_http.specs.declared.places.Asker.{Asker}
 use Rattle.tacho_http.specs.declared.places.Asker.TheVariants.{Driver, Office}
-use Rattle.tacho_http.specs.declared.places.Place.{Place}
+use Rattle.tacho_http.specs.declared.places.Found.{Found}
 
 -- who asks
 abbrev pub asker_of : Caller → Asker
@@ -25,31 +24,33 @@ pub record Wish : Type 0 where
   pub driver : List ℕ
   pub word : List ℕ
 
--- what a place offers for a method, if anything
-abbrev pub want_at : Option Method → Place → Option Want
-want_at None place = None
-want_at (Some method.Get) place = place.get
-want_at (Some method.Post) place = place.post
-
 -- the place is for this asker
 abbrev pub same_asker : Asker → Asker → Bool
 same_asker Office Office = true
 same_asker Driver Driver = true
 same_asker a b = false
 
--- 405, 403, or what is asked for
-abbrev pub wish_granted : Asker → Named → Option Want → Result Wish Status
-wish_granted a named None = Err status.MethodNotAllowed
-wish_granted a named (Some want) =
-    if same_asker a named.place.asker then Ok (record { want = want; driver = named.driver; word = named.word }) else Err status.Forbidden
+-- 403, or what is asked for
+abbrev pub wish_granted : Asker → Named → Result Wish Status
+wish_granted a named =
+    if same_asker a named.place.asker then Ok (record { want = named.place.want; driver = named.driver; word = named.word })
+    else Err status.Forbidden
 
--- 404, 405, 403, or what is asked for
-abbrev pub wish_at : Asker → Option Method → Option Named → Result Wish Status
-wish_at a m None = Err status.NotFound
-wish_at a m (Some named) = wish_granted a named (want_at m named.place)
+-- what the path names for the method; otherwise 405 if it names something for another method, and 404 if it names nothing
+abbrev pub wish_at : Asker → Option Named → Option Named → Result Wish Status
+wish_at a (Some named) other = wish_granted a named
+wish_at a None (Some other) = Err status.MethodNotAllowed
+wish_at a None None = Err status.NotFound
+
+-- by the method, from what the path names for GET and for POST
+abbrev pub wish_by : Asker → Option Method → Option Named → Option Named → Result Wish Status
+wish_by a (Some method.Get) get post = wish_at a get post
+wish_by a (Some method.Post) get post = wish_at a post get
+wish_by a None None post = wish_at a None post
+wish_by a None (Some named) post = wish_at a None (Some named)
 
 abbrev pub wish_of : Asker → List ℕ → List ℕ → Result Wish Status
-wish_of a text path = wish_at a (method_of text) (named_at path)
+wish_of a text path = wish_by a (method_of text) (named_in (routes method.Get) path) (named_in (routes method.Post) path)
 
 -- the method is POST, by which only commands are asked for
 abbrev pub is_post : Option Method → Bool
@@ -57,6 +58,6 @@ is_post (Some method.Post) = true
 is_post other = false
 
 -- what the code found
-abbrev pub wish_found : Result Asked Status → Result Wish Status
-wish_found (Ok asked) = Ok (record { want = asked.want; driver = asked.driver.now; word = asked.word.now })
+abbrev pub wish_found : Result Found Status → Result Wish Status
+wish_found (Ok f) = Ok (record { want = f.place.want; driver = f.driver.now; word = f.word.now })
 wish_found (Err refusal) = Err refusal

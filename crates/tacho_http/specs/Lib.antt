@@ -1,4 +1,5 @@
 pub mod Routes
+pub mod Offers
 pub mod Asked
 pub mod Access
 pub mod Reply

@@ -1,5 +1,5 @@
--- Trusted: The routes, and what a path names.
-use Rattle.std.specs.Prelude.{ℕ, List, [], ◌∷◌, ◌++◌, Option, Some, None, option_map, codes, Result, Ok, Err, bytes_eq, if◌then◌else◌}
+-- Trusted in part: The routes, and what a path names.
+use Rattle.std.specs.Prelude.{ℕ, List, [], ◌∷◌, ◌++◌, Option, Some, None, option_map, codes, flat_map, Result, Ok, Err}
 use Rattle.matchit.specs.Rows.{RowsOf}
 use Rattle.matchit.specs.Order.{placed}
 use Rattle.matchit.specs.Params.{named, walk}
@@ -11,17 +11,20 @@ use Rattle.tacho_desk.specs.declared.want.MonthOfAll.TheVariants.{Incidents, Ove
 use Rattle.tacho_desk.specs.declared.want.MonthReading.TheVariants.{Chart, Gaps, Sheet, Spans, Why}
 use Rattle.tacho_desk.specs.declared.want.Reading.TheVariants.{Breaches, Debts, Entries, Files, Form, Owed, Stretches}
 use Rattle.tacho_desk.specs.declared.want.Want.{Want}
-use Rattle.tacho_desk.specs.declared.want.Want.TheVariants.{Base, Drivers, Enter, File, Import, MonthOfAll, MonthReading, Reading, Register, Withdraw}
+use Rattle.tacho_desk.specs.declared.want.Want.TheVariants.{Base, Drivers, Enter, File, Import, MonthOfAll, MonthReading, Reading, Register, Version, Withdraw}
+use Rattle.tacho_message.specs.declared.method.Method.{Method}
+use Rattle.tacho_message.specs.declared.method.Method.TheVariants as method
+use Rattle.tacho_http.specs.declared.places.Found.{Found}
 use Rattle.tacho_http.specs.declared.places.Place.{Place}
 use Rattle.tacho_http.specs.declared.places.Asker.{Asker}
 use Rattle.tacho_http.specs.declared.places.Asker.TheVariants.{Driver, Office}
 
 abbrev pub TableRow : Type 0
-TableRow = List ℕ × Place
+TableRow = List ℕ × Asker × Option Want × Option Want
 
 -- a path, who may ask there, and what a GET and a POST ask for
 abbrev pub table_row : List ℕ → Asker → Option Want → Option Want → TableRow
-table_row path a get post = (path, record { asker = a; get = get; post = post })
+table_row path a get post = (path, a, get, post)
 
 -- the paths of the first version: what the office may ask for, and what a driver may
 abbrev pub route_table : List TableRow
@@ -59,6 +62,7 @@ office_table =
     ∷ table_row (codes "/drivers/{driver}/chart/{word}") Office (Some (MonthReading Chart)) None
     ∷ table_row (codes "/overview/{word}") Office (Some (MonthOfAll Overview)) None
     ∷ table_row (codes "/incidents/{word}") Office (Some (MonthOfAll Incidents)) None
+    ∷ table_row (codes "/version") Office (Some Version) None
     ∷ []
 
 -- what else a driver may ask for
@@ -70,30 +74,25 @@ driver_table =
     ∷ table_row (codes "/me/form") Driver (Some (Reading Form)) None
     ∷ table_row (codes "/me/why/{word}") Driver (Some (MonthReading Why)) None
     ∷ table_row (codes "/me/chart/{word}") Driver (Some (MonthReading Chart)) None
+    ∷ table_row (codes "/me/version") Driver (Some Version) None
     ∷ []
 
--- what either offers
-abbrev pub either_offers : Option Want → Option Want → Option Want
-either_offers None more = more
-either_offers (Some want) more = Some want
-
--- a row with what another row of its path offers
-abbrev pub with_offers : TableRow → TableRow → TableRow
-with_offers row more =
-    table_row row.0 row.1.asker (either_offers row.1.get more.1.get) (either_offers row.1.post more.1.post)
-
--- a table with one more row, which becomes part of the row of its path if there is one
-unfoldable pub with_row : TableRow → List TableRow → List TableRow
-with_row more [] = more ∷ []
-with_row more (row ∷ table) = if bytes_eq row.0 more.0 then with_offers row more ∷ table else row ∷ with_row more table
-
-unfoldable pub with_rows : List TableRow → List TableRow → List TableRow
-with_rows table [] = table
-with_rows table (more ∷ rest) = with_rows (with_row more table) rest
-
 -- all paths; no other path is answered
-unfoldable pub all_routes : List TableRow
-all_routes = with_rows route_table (office_table ++ driver_table)
+abbrev pub all_routes : List TableRow
+all_routes = route_table ++ office_table ++ driver_table
+
+-- a path, with who may ask there, and for what
+abbrev pub Offer : Type 0
+Offer = List ℕ × Place
+
+abbrev pub offer : List ℕ → Asker → Option Want → List Offer
+offer path a None = []
+offer path a (Some want) = (path, record { asker = a; want = want }) ∷ []
+
+-- what a row offers for a method
+abbrev pub offered : Method → TableRow → List Offer
+offered method.Get row = offer row.0 row.1 row.2
+offered method.Post row = offer row.0 row.1 row.3
 
 abbrev pub Rows : Type 0
 Rows = RowsOf (RouteOf Place)
@@ -103,13 +102,14 @@ abbrev pub with_read : Rows → Place → Result Scan InsertError → Rows
 with_read rows place (Ok s) = placed (s.pattern, route_from s place) rows
 with_read rows place (Err e) = rows
 
-abbrev pub with_route : Rows → TableRow → Rows
-with_route rows row = with_read rows row.1 (parse_route row.0)
+-- with the routes of several offers, in order
+unfoldable pub with_offers : Rows → List Offer → Rows
+with_offers rows [] = rows
+with_offers rows (one ∷ more) = with_offers (with_read rows one.1 (parse_route one.0)) more
 
--- with the routes of a table, in order
-unfoldable pub rows_of_table : Rows → List TableRow → Rows
-rows_of_table rows [] = rows
-rows_of_table rows (row ∷ table) = rows_of_table (with_route rows row) table
+-- the routes at which a method is offered
+unfoldable pub routes : Method → Rows
+routes m = with_offers [] (flat_map (offered m) all_routes)
 
 -- ---- what a path names
 
@@ -134,5 +134,10 @@ named_by path route = record {
   word = or_empty (named (codes "word") (parts_of route path));
 }
 
-abbrev pub named_at : List ℕ → Option Named
-named_at path = option_map (named_by path) (first (rows_of_table [] all_routes) path)
+abbrev pub named_in : Rows → List ℕ → Option Named
+named_in rows path = option_map (named_by path) (first rows path)
+
+-- ---- the same in values of the code
+
+abbrev pub named_found : Found → Named
+named_found f = record { place = f.place; driver = f.driver.now; word = f.word.now }

@@ -1,18 +1,10 @@
 ghost use Rattle.std.specs.Prelude.{◌≡◌, option_map};
-ghost use Rattle.tacho_http.specs.Asked.{asker_of as asker_named, want_at, same_asker, wish_at, wish_found};
+ghost use Rattle.tacho_http.specs.Asked.{asker_of as asker_named, same_asker, wish_at, wish_by, wish_found};
+ghost use Rattle.tacho_http.specs.Routes.{named_found};
 
-use crate::places::{Asker, Found, Place};
-use tacho_desk::Want;
+use crate::places::{Asker, Found, Offered};
 use tacho_message::{Method, Status};
 use tacho_state::Caller;
-
-/// What is asked for, with the arguments in the path.
-#[derive(Clone, Copy)]
-pub(crate) struct Asked<'p> {
-    pub want: Want,
-    pub driver: &'p str,
-    pub word: &'p str,
-}
 
 /// Who asks.
 pub(crate) fn asker_of(caller: Caller) -> Asker
@@ -31,42 +23,45 @@ fn is_same(a: Asker, b: Asker) -> bool
     a == b
 }
 
-/// What a place offers for a method, if anything.
-fn offered_at(method: Option<Method>, place: Place) -> Option<Want>
-    ensures { result ≡ want_at method place }
-{
-    match method {
-        Some(Method::Get) => place.get,
-        Some(Method::Post) => place.post,
-        None => None,
-    }
-}
-
-/// Finds what is asked for. Fails with 404 if the path names no place, with 405 if the place doesn't offer the method, and with 403 if the
-/// place is for the other asker.
-pub(crate) fn asked_of<'p>(
+/// What is found for a method; otherwise 405 if something is found for another method, and 404 if nothing is. 403 if what is found is for the
+/// other asker.
+fn asked_at<'p>(
     asker: Asker,
-    method: Option<Method>,
     found: Option<Found<'p>>,
-) -> Result<Asked<'p>, Status>
-    ensures { wish_found result ≡ wish_at asker method
-        (option_map (λ f. record { place = f.place; driver = f.driver.now; word = f.word.now }) found.entry) }
+    other: Option<Found<'p>>,
+) -> Result<Found<'p>, Status>
+    ensures { wish_found result ≡ wish_at asker (option_map named_found found.entry) (option_map named_found other.entry) }
 {
-    let Some(found) = found else {
-        return Err(Status::NotFound);
-    };
-    match offered_at(method, found.place) {
-        None => Err(Status::MethodNotAllowed),
-        Some(want) => {
+    match found {
+        Some(found) => {
             if is_same(asker, found.place.asker) {
-                Ok(Asked {
-                    want,
-                    driver: found.driver,
-                    word: found.word,
-                })
+                Ok(found)
             } else {
                 Err(Status::Forbidden)
             }
         }
+        None => match other {
+            Some(_) => Err(Status::MethodNotAllowed),
+            None => Err(Status::NotFound),
+        },
+    }
+}
+
+/// Finds what is asked for. Fails with 404 if the path names nothing, with 405 if it names nothing for the method, and with 403 if what it
+/// names is for the other asker.
+pub(crate) fn asked_of<'p>(
+    asker: Asker,
+    method: Option<Method>,
+    offered: Offered<'p>,
+) -> Result<Found<'p>, Status>
+    ensures { wish_found result ≡ wish_by asker method (option_map named_found offered.entry.get) (option_map named_found offered.entry.post) }
+{
+    match method {
+        Some(Method::Get) => asked_at(asker, offered.get, offered.post),
+        Some(Method::Post) => asked_at(asker, offered.post, offered.get),
+        None => match offered.get {
+            Some(found) => asked_at(asker, None, Some(found)),
+            None => asked_at(asker, None, offered.post),
+        },
     }
 }

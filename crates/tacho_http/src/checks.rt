@@ -12,8 +12,8 @@ ghost use Rattle.tacho_http.specs.Answer.{Asks, LacksMore, MayAsk, Responds};
 ghost use Rattle.tacho_http.specs.Asked.{is_post};
 ghost use Rattle.tacho_http.specs.Serve.{ByCaller, ByKey, Runs};
 
-use crate::asked::{Asked, asked_of, asker_of};
-use crate::places::{find, routes};
+use crate::asked::{asked_of, asker_of};
+use crate::places::{Found, Routes};
 use crate::response::{Response, fixed, refusal, reply};
 use std::alloc::Global;
 use tacho_desk::{carry_out, task_of};
@@ -21,9 +21,11 @@ use tacho_message::{BodyFault, Method, Request, Status, body_length_of, read_bod
 use tacho_state::{Caller, Keeper};
 use tacho_time::{Failed, Source};
 
-/// Answers a request by its key: the office's, which is checked first, or a driver's.
+/// Answers a request by its key: the office's, which is checked first, or a driver's. Without routes, for which memory ran out, a caller
+/// gets 503.
 pub(crate) fn by_key<K: Keeper, R: Source>(
     alloc: Global,
+    routes: Option<&Routes>,
     keeper: &mut K,
     office_key: &[u8],
     key: &[u8],
@@ -43,10 +45,17 @@ pub(crate) fn by_key<K: Keeper, R: Source>(
     ensures failed { IsErr result ↔ (R.has_failed reader.new ≡ true) }
 {
     if key == office_key {
-        return by_caller(alloc, keeper, Caller::Office, reader, request);
+        return by_caller(alloc, routes, keeper, Caller::Office, reader, request);
     }
     match keeper.who(key) {
-        Ok(Some(number)) => by_caller(alloc, keeper, Caller::Driver(number), reader, request),
+        Ok(Some(number)) => by_caller(
+            alloc,
+            routes,
+            keeper,
+            Caller::Driver(number),
+            reader,
+            request,
+        ),
         Ok(None) => Ok(fixed(Status::Forbidden)),
         Err(_) => Ok(fixed(Status::Unavailable)),
     }
@@ -55,6 +64,7 @@ pub(crate) fn by_key<K: Keeper, R: Source>(
 /// Answers a caller's request. Checks its path, its method, for whom the path is, and its fields.
 fn by_caller<K: Keeper, R: Source>(
     alloc: Global,
+    routes: Option<&Routes>,
     keeper: &mut K,
     caller: Caller,
     reader: &mut R,
@@ -69,15 +79,15 @@ fn by_caller<K: Keeper, R: Source>(
         → LacksMore (λ by c. (by ≡ key) × (c ≡ caller)) h request.now.after_head.now (R.unread reader.old) (R.unread reader.new) }
     ensures failed { IsErr result ↔ (R.has_failed reader.new ≡ true) }
 {
-    let Ok(routes) = routes(alloc) else {
+    let Some(routes) = routes else {
         return Ok(fixed(Status::Unavailable));
     };
     let method = Method::read(request.method);
-    let asked = match asked_of(asker_of(caller), method, find(&routes, request.path)) {
+    let asked = match asked_of(asker_of(caller), method, routes.find(request.path)) {
         Ok(asked) => asked,
         Err(status) => return Ok(fixed(status)),
     };
-    let takes = asked.want.takes_input();
+    let takes = asked.place.want.takes_input();
     match body_length_of(method, takes, request.buffer, request.fields) {
         Ok(length) => run_task(
             alloc,
@@ -97,14 +107,14 @@ fn run_task<K: Keeper, R: Source>(
     alloc: Global,
     keeper: &mut K,
     caller: Caller,
-    asked: Asked<'_>,
+    asked: Found<'_>,
     count: u64,
     reader: &mut R,
     after_head: &[u8],
 ) -> Result<Response, Failed>
     requires { R.has_failed reader.old ≡ false }
-    ensures responds { Responds K.stands K.is_clean K.is_live K.leaves K.is_same keeper.old keeper.new (is_command asked.entry.want) (R.unread reader.old) result
-        (λ left s. Runs (record { want = asked.entry.want; driver = asked.entry.driver.now; word = asked.entry.word.now }) count caller (after_head.now ++ left) s) }
+    ensures responds { Responds K.stands K.is_clean K.is_live K.leaves K.is_same keeper.old keeper.new (is_command asked.entry.place.want) (R.unread reader.old) result
+        (λ left s. Runs (record { want = asked.entry.place.want; driver = asked.entry.driver.now; word = asked.entry.word.now }) count caller (after_head.now ++ left) s) }
     ensures lacks { IsErr result → Lacks after_head.now (R.unread reader.old) (R.unread reader.new) count }
     ensures failed { IsErr result ↔ (R.has_failed reader.new ≡ true) }
 {
@@ -114,14 +124,10 @@ fn run_task<K: Keeper, R: Source>(
         Err(BodyFault::Memory) => return Ok(fixed(Status::Unavailable)),
         Err(BodyFault::Read) => return Err(Failed),
     };
-    let task = task_of(
-        asked.want,
-        caller,
-        asked.driver.as_bytes(),
-        asked.word.as_bytes(),
-    );
+    let want = asked.place.want;
+    let task = task_of(want, caller, asked.driver.as_bytes(), asked.word.as_bytes());
     match task {
-        Ok(task) => Ok(reply(asked.want, carry_out(alloc, keeper, task, &body))),
+        Ok(task) => Ok(reply(want, carry_out(alloc, keeper, task, &body))),
         Err(fault) => Ok(refusal(fault)),
     }
 }

@@ -4,7 +4,8 @@ ghost use Rattle.std.specs.Prelude.{◌≡◌, false, All};
 ghost use Rattle.tacho_state.specs.State.{State};
 ghost use Rattle.tacho_http.specs.Run.{Kept, Run, Went, WentKept};
 
-use crate::exchange::answer;
+use crate::exchange::answer_by;
+use crate::places::Routes;
 use std::alloc::Global;
 use tacho_state::Keeper;
 use tacho_time::{Sink, Source};
@@ -26,10 +27,12 @@ pub fn answer_all<K: Keeper, R: Source, W: Sink>(
         → (b : Kept) × K.stands keeper.new b.state × K.leaves keeper.new b.past × Run
         (λ c d. WentKept office_key.now (R.unread c.0) (W.written c.1) (W.written d.1) (R.has_failed d.0) (W.has_failed d.1)) connections.old connections.new result a b }
 {
+    let routes = Routes::new(alloc).ok();
     let mut count = 0;
     for connection in connections.iter_mut() {
-        if answer(
+        if answer_by(
             alloc,
+            routes.as_ref(),
             keeper,
             office_key,
             &mut connection.0,

@@ -5,6 +5,7 @@ ghost use Rattle.tacho_state.specs.State.{State};
 ghost use Rattle.tacho_http.specs.Answer.{Answered, Asks, Exchanged, IsUnfinished, MayAsk};
 
 use crate::checks::by_key;
+use crate::places::Routes;
 use crate::response::{Response, fixed};
 use httparse::spans::{EMPTY_HEADER_SPAN, HeaderSpan};
 use std::alloc::Global;
@@ -35,6 +36,7 @@ pub struct Served {
 /// Reads a request, with its head in these buffers, and does what it asks for.
 fn respond_in<K: Keeper, R: Source>(
     alloc: Global,
+    routes: Option<&Routes>,
     keeper: &mut K,
     office_key: &[u8],
     reader: &mut R,
@@ -55,7 +57,7 @@ fn respond_in<K: Keeper, R: Source>(
     };
     let request = request_of(&buffer[..head.filled], fields, &head.spans);
     match request.key() {
-        Some(key) => by_key(alloc, keeper, office_key, key, reader, &request),
+        Some(key) => by_key(alloc, routes, keeper, office_key, key, reader, &request),
         None => Ok(fixed(Status::Forbidden)),
     }
 }
@@ -63,6 +65,7 @@ fn respond_in<K: Keeper, R: Source>(
 /// Reads a request and does what it asks for.
 fn respond<K: Keeper, R: Source>(
     alloc: Global,
+    routes: Option<&Routes>,
     keeper: &mut K,
     office_key: &[u8],
     reader: &mut R,
@@ -73,7 +76,15 @@ fn respond<K: Keeper, R: Source>(
 {
     let mut buffer = [0u8; HEAD_LIMIT];
     let mut fields = [EMPTY_HEADER_SPAN; FIELD_LIMIT];
-    respond_in(alloc, keeper, office_key, reader, &mut buffer, &mut fields)
+    respond_in(
+        alloc,
+        routes,
+        keeper,
+        office_key,
+        reader,
+        &mut buffer,
+        &mut fields,
+    )
 }
 
 /// Answers one request at an archive. Reads its head, and its body if what it asks for has one, acts, and writes one reply. A command that
@@ -99,7 +110,35 @@ pub fn answer<K: Keeper, R: Source, W: Sink>(
     ensures read { IsErrOf result IoFault.Read ↔ (R.has_failed reader.new ≡ true) }
     ensures write { IsErrOf result IoFault.Write ↔ (W.has_failed writer.new ≡ true) }
 {
-    let Ok(response) = respond(alloc, keeper, office_key, reader) else {
+    let routes = Routes::new(alloc).ok();
+    answer_by(alloc, routes.as_ref(), keeper, office_key, reader, writer)
+}
+
+/// Answers one request at an archive as `answer` does, by routes that were made before. Without routes, for which memory ran out, each
+/// request with a key of the office or of a driver gets 503.
+pub fn answer_by<K: Keeper, R: Source, W: Sink>(
+    alloc: Global,
+    routes: Option<&Routes>,
+    keeper: &mut K,
+    office_key: &[u8],
+    reader: &mut R,
+    writer: &mut W,
+) -> Result<Served, IoFault>
+    requires reader { R.has_failed reader.old ≡ false }
+    requires writer { W.has_failed writer.old ≡ false }
+    ensures clean { K.is_clean keeper.new → K.is_clean keeper.old }
+    // The reply is one that the input may get. It was written whole, or, if the writer failed, in part.
+    ensures exchanged { Exchanged K.stands K.is_clean K.is_live K.leaves K.is_same keeper.old keeper.new office_key.now (R.unread reader.old)
+        (W.written writer.old) (W.written writer.new) result }
+    // If the reader failed, it had not given a whole request: its head, or the body of what it asks for, was incomplete.
+    ensures unfinished { result ≡ Err IoFault.Read → IsUnfinished (MayAsk office_key.now) (R.unread reader.old) (R.unread reader.new) }
+    // So the body of a request isn't read if its key is nobody's.
+    ensures known { K.is_clean keeper.new → (s : State) → K.stands keeper.old s → result ≡ Err IoFault.Read
+        → IsUnfinished (Asks s office_key.now) (R.unread reader.old) (R.unread reader.new) }
+    ensures read { IsErrOf result IoFault.Read ↔ (R.has_failed reader.new ≡ true) }
+    ensures write { IsErrOf result IoFault.Write ↔ (W.has_failed writer.new ≡ true) }
+{
+    let Ok(response) = respond(alloc, routes, keeper, office_key, reader) else {
         return Err(IoFault::Read);
     };
     let status = response.status;

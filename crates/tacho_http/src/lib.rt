@@ -10,5 +10,6 @@ mod places;
 mod response;
 
 pub use connections::answer_all;
-pub use exchange::{IoFault, Served, answer};
+pub use exchange::{IoFault, Served, answer, answer_by};
+pub use places::Routes;
 pub use tacho_message::Status;

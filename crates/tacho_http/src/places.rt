@@ -1,19 +1,20 @@
-ghost use Rattle.std.specs.Prelude.{◌≡◌, [], IfOk, OnOk, map, option_map};
-ghost use Rattle.tacho_http.specs.Routes.{with_route, all_routes, rows_of_table, named_at, or_empty, table_row};
+//! What paths offer. The routes come from the table of commands.
+
+ghost use Rattle.std.specs.Prelude.{◌≡◌, IfOk, OnOk, [], map, option_map};
+ghost use Rattle.tacho_message.specs.declared.method.Method.{Method as MethodValue};
+ghost use Rattle.tacho_message.specs.declared.method.Method.TheVariants.{Get, Post};
+ghost use Rattle.tacho_desk.specs.Commands.{row_of};
+ghost use Rattle.tacho_http.specs.Offers.{offer_at, offers_in, offers_of, want_of as want_at};
+ghost use Rattle.tacho_http.specs.Routes.{named_in, named_found, or_empty, routes, with_offers};
 ghost use Rattle.matchit.specs.Params.{AllText, named, walk};
 
-use self::Asker::{Driver, Office};
 use matchit::{InsertError, Params, Router};
 use std::alloc::Global;
-use tacho_desk::MonthOfAll::{Incidents, Overview};
-use tacho_desk::MonthReading::{Chart, Gaps, Sheet, Spans, Why};
-use tacho_desk::Reading::{Breaches, Debts, Entries, Files, Form, Owed, Stretches};
-use tacho_desk::Want::{
-    self, Base, Drivers, Enter, File, Import, MonthOfAll, MonthReading, Reading, Register, Withdraw,
-};
+use std::marker::Model;
+use tacho_desk::{Act, Command, Want, command_table};
 
 /// Who asks.
-#[derive(Clone, Copy)]
+#[derive(Clone, Copy, PartialEq, Eq)]
 pub(crate) enum Asker {
     /// The office, for all drivers.
     Office,
@@ -21,151 +22,132 @@ pub(crate) enum Asker {
     Driver,
 }
 
-/// What a path offers: who may ask there, and what a GET and a POST ask for.
+/// What a path offers for a method: who may ask there, and for what.
 #[derive(Clone, Copy)]
 pub(crate) struct Place {
     pub asker: Asker,
-    pub get: Option<Want>,
-    pub post: Option<Want>,
+    pub want: Want,
 }
 
-/// A path, who may ask there, and what a GET and a POST ask for.
-type Row = (&'static str, Asker, Option<Want>, Option<Want>);
-
-/// The paths. A part in braces matches one part of a path that isn't empty: the number of a driver, or the other argument, which is a part
-/// of a card file, a number, a day or a month.
-static TABLE: [Row; 33] = [
-    ("/drivers", Office, Some(Drivers), Some(Register)),
-    ("/cards/{word}", Office, None, Some(Import)),
-    (
-        "/drivers/{driver}/entries",
-        Office,
-        Some(Reading(Entries)),
-        Some(Enter),
-    ),
-    (
-        "/drivers/{driver}/withdraw/{word}",
-        Office,
-        None,
-        Some(Withdraw),
-    ),
-    ("/drivers/{driver}/base/{word}", Office, None, Some(Base)),
-    (
-        "/drivers/{driver}/spans/{word}",
-        Office,
-        Some(MonthReading(Spans)),
-        None,
-    ),
-    (
-        "/drivers/{driver}/gaps/{word}",
-        Office,
-        Some(MonthReading(Gaps)),
-        None,
-    ),
-    (
-        "/drivers/{driver}/sheet/{word}",
-        Office,
-        Some(MonthReading(Sheet)),
-        None,
-    ),
-    (
-        "/drivers/{driver}/breaches",
-        Office,
-        Some(Reading(Breaches)),
-        None,
-    ),
-    ("/drivers/{driver}/owed", Office, Some(Reading(Owed)), None),
-    ("/drivers/{driver}/files/{word}", Office, Some(File), None),
-    ("/me/cards/{word}", Driver, None, Some(Import)),
-    ("/me/entries", Driver, Some(Reading(Entries)), None),
-    ("/me/spans/{word}", Driver, Some(MonthReading(Spans)), None),
-    ("/me/gaps/{word}", Driver, Some(MonthReading(Gaps)), None),
-    ("/me/sheet/{word}", Driver, Some(MonthReading(Sheet)), None),
-    ("/me/breaches", Driver, Some(Reading(Breaches)), None),
-    ("/me/owed", Driver, Some(Reading(Owed)), None),
-    ("/me/files/{word}", Driver, Some(File), None),
-    (
-        "/drivers/{driver}/stretches",
-        Office,
-        Some(Reading(Stretches)),
-        None,
-    ),
-    (
-        "/drivers/{driver}/debts",
-        Office,
-        Some(Reading(Debts)),
-        None,
-    ),
-    (
-        "/drivers/{driver}/files",
-        Office,
-        Some(Reading(Files)),
-        None,
-    ),
-    ("/drivers/{driver}/form", Office, Some(Reading(Form)), None),
-    (
-        "/drivers/{driver}/why/{word}",
-        Office,
-        Some(MonthReading(Why)),
-        None,
-    ),
-    (
-        "/drivers/{driver}/chart/{word}",
-        Office,
-        Some(MonthReading(Chart)),
-        None,
-    ),
-    ("/overview/{word}", Office, Some(MonthOfAll(Overview)), None),
-    (
-        "/incidents/{word}",
-        Office,
-        Some(MonthOfAll(Incidents)),
-        None,
-    ),
-    ("/me/stretches", Driver, Some(Reading(Stretches)), None),
-    ("/me/debts", Driver, Some(Reading(Debts)), None),
-    ("/me/files", Driver, Some(Reading(Files)), None),
-    ("/me/form", Driver, Some(Reading(Form)), None),
-    ("/me/why/{word}", Driver, Some(MonthReading(Why)), None),
-    ("/me/chart/{word}", Driver, Some(MonthReading(Chart)), None),
-];
-
-/// Adds a path to a router.
-fn add(router: &mut Router<Place>, text: &str, place: Place) -> Result<(), InsertError>
-    ensures { OnOk result (router.new ≡ with_route router.old (text.now, place)) }
+/// Adds a path to a router, unless it is empty.
+fn add(router: &mut Router<Place>, path: &str, place: Place) -> Result<(), InsertError>
+    ensures { OnOk result (router.new ≡ with_offers router.old (offer_at path.now place)) }
 {
-    router.insert(text, place)
+    if path.is_empty() {
+        return Ok(());
+    }
+    router.insert(path, place)
 }
 
-/// Makes a router of the paths in a table.
-fn routes_of(alloc: Global, table: &[Row]) -> Result<Router<Place>, InsertError>
-    ensures { IfOk result (λ r. r ≡ rows_of_table [] (map (λ row. table_row row.0.now row.1 row.2 row.3) table.now)) }
+/// What is asked for by a request for what a command does.
+fn want_of(act: Act) -> Option<Want>
+    ensures { result ≡ want_at act }
+{
+    match act {
+        Act::AtDesk(want) => Some(want),
+        Act::Version => Some(Want::Version),
+        Act::Dump
+        | Act::Holder
+        | Act::Card
+        | Act::Init
+        | Act::Migrate
+        | Act::Check
+        | Act::Serve
+        | Act::Listen => None,
+    }
+}
+
+/// Adds the paths of a command, if its requests are posted or if they aren't.
+fn add_command(
+    router: &mut Router<Place>,
+    command: &Command,
+    posted: bool,
+) -> Result<(), InsertError>
+    ensures { OnOk result (router.new ≡ with_offers router.old (offers_of posted (row_of command.now))) }
+{
+    let Some(want) = want_of(command.act) else {
+        return Ok(());
+    };
+    if want.changes() != posted {
+        return Ok(());
+    }
+    add(
+        router,
+        command.office,
+        Place {
+            asker: Asker::Office,
+            want,
+        },
+    )?;
+    add(
+        router,
+        command.driver,
+        Place {
+            asker: Asker::Driver,
+            want,
+        },
+    )
+}
+
+/// Makes a router of the paths of a table's commands, those that are posted or those that aren't.
+fn router_of(alloc: Global, table: &[Command], posted: bool) -> Result<Router<Place>, InsertError>
+    ensures { IfOk result (λ r. r ≡ with_offers [] (offers_in posted (map row_of table.now))) }
 {
     let mut router = Router::new(alloc);
-    for (text, asker, get, post) in table {
-        let place = Place {
-            asker: *asker,
-            get: *get,
-            post: *post,
-        };
-        add(&mut router, text, place)?;
+    for command in table {
+        add_command(&mut router, command, posted)?;
     }
     Ok(router)
 }
 
-/// Makes the router of all paths.
-pub(crate) fn routes(alloc: Global) -> Result<Router<Place>, InsertError>
-    ensures { IfOk result (λ r. r ≡ rows_of_table [] all_routes) }
-{
-    routes_of(alloc, TABLE.as_slice())
+/// The routes of all commands. A server makes them once.
+#[derive(Drop)]
+pub struct Routes {
+    get: Router<Place>,
+    post: Router<Place>,
 }
 
-/// What a path names: the place, the number of a driver, and the other argument. Each is empty if the route has none.
+impl Model for Routes {
+    ghost Value = { Unit {0} };
+
+    ghost view = { λ _. tt };
+
+    ghost invariant = { λ r. (r.get ≡ routes Get) × (r.post ≡ routes Post) };
+}
+
+/// What a path names: the place, the number of a driver, and the other argument. Each of these two is empty if the route has none.
 #[derive(Clone, Copy)]
 pub(crate) struct Found<'p> {
     pub place: Place,
     pub driver: &'p str,
     pub word: &'p str,
+}
+
+/// What a path names by each method.
+#[derive(Clone, Copy)]
+pub(crate) struct Offered<'p> {
+    pub get: Option<Found<'p>>,
+    pub post: Option<Found<'p>>,
+}
+
+impl Routes {
+    /// Makes the routes. Fails if memory runs out.
+    pub fn new(alloc: Global) -> Result<Routes, InsertError> {
+        let get = router_of(alloc, command_table(), false)?;
+        let post = router_of(alloc, command_table(), true)?;
+        Ok(Routes { get, post })
+    }
+
+    /// Finds what a path names by each method.
+    pub(crate) fn find<'p>(&self, path: &'p str) -> Offered<'p>
+        ensures get { option_map named_found result.get ≡ named_in (routes Get) path.now }
+        ensures post { option_map named_found result.post ≡ named_in (routes Post) path.now }
+    {
+        Offered {
+            get: find_in(&self.get, path),
+            post: find_in(&self.post, path),
+        }
+    }
 }
 
 /// The text that matches the part in braces with this name, or an empty text.
@@ -179,10 +161,10 @@ fn part_of<'p>(params: &Params<'_, 'p>, name: &str) -> &'p str
     }
 }
 
-/// Finds what a path names.
-pub(crate) fn find<'p>(router: &Router<Place>, path: &'p str) -> Option<Found<'p>>
-    requires { router.now ≡ rows_of_table [] all_routes }
-    ensures { option_map (λ f. record { place = f.place; driver = f.driver.now; word = f.word.now }) result ≡ named_at path.now }
+/// Finds what a path names in a router of one method.
+fn find_in<'p>(router: &Router<Place>, path: &'p str) -> Option<Found<'p>>
+    requires { (m : MethodValue) × (router.now ≡ routes m) }
+    ensures { option_map named_found result ≡ named_in router.now path.now }
 {
     match router.at(path) {
         Ok(found) => Some(Found {

@@ -132,7 +132,16 @@ fn media_of(want: Want) -> MediaType
         Want::File => MediaType::Octets,
         Want::MonthReading(MonthReading::Chart) => MediaType::Svg,
         Want::Reading(Reading::Form) | Want::MonthOfAll(_) => MediaType::Csv,
-        _ => MediaType::Text,
+        Want::Register
+        | Want::Import
+        | Want::Enter
+        | Want::Withdraw
+        | Want::Base
+        | Want::Key
+        | Want::Reading(_)
+        | Want::MonthReading(_)
+        | Want::Drivers
+        | Want::Version => MediaType::Text,
     }
 }
 
@@ -142,7 +151,7 @@ fn done(want: Want, text: Text) -> Response
 {
     let status = match &text {
         Text::Added(_) => Status::Created,
-        Text::Line(_) | Text::Long(_) | Text::File(_) => Status::Okay,
+        Text::Line(_) | Text::Fixed(_) | Text::Long(_) | Text::File(_) => Status::Okay,
     };
     Response {
         status,

@@ -5,7 +5,7 @@ use std::io::{self, ErrorKind};
 use std::net::{Ipv4Addr, Shutdown, TcpListener, TcpStream};
 use std::thread;
 use std::time::Duration;
-use tacho_http::answer_all;
+use tacho_http::{Routes, answer_by};
 use tacho_state::{Keeper, StoreFault};
 use tacho_time::Device;
 use thiserror::Error;
@@ -72,6 +72,9 @@ pub enum ServeFault {
     /// again.
     #[error("the archive's store failed")]
     Store,
+    /// Memory ran out before the first connection.
+    #[error("out of memory")]
+    Memory,
 }
 
 /// Where an archive is kept, beside the connection that keeps it open.
@@ -90,6 +93,9 @@ pub fn serve<K: Keeper, P: Place>(
     port: u16,
     count: u32,
 ) -> Result<(), ServeFault> {
+    let Ok(routes) = Routes::new(rt.alloc()) else {
+        return Err(ServeFault::Memory);
+    };
     let Ok(listener) = TcpListener::bind(rt, (Ipv4Addr::LOCALHOST, port)) else {
         return Err(ServeFault::Device);
     };
@@ -100,7 +106,7 @@ pub fn serve<K: Keeper, P: Place>(
         if !place.is_there(rt) {
             return Err(ServeFault::Store);
         }
-        let _ = answer_one(rt, keeper, key, &stream);
+        let _ = answer_one(rt, &routes, keeper, key, &stream);
         if has_failed(rt, keeper, key) {
             return Err(ServeFault::Store);
         }
@@ -161,14 +167,22 @@ fn may_pass(error: &io::Error) -> bool {
 /// Answers one connection within its time limit.
 fn answer_one<K: Keeper>(
     rt: &HostRuntime,
+    routes: &Routes,
     keeper: &mut K,
     key: &str,
     stream: &TcpStream,
 ) -> io::Result<()> {
     stream.set_nodelay(true)?;
     let timed = Timed::new(rt, stream, Duration::from_secs(PATIENCE))?;
-    let mut connections = [(Device::new(timed), Device::new(timed))];
-    if answer_all(rt.alloc(), keeper, key.as_bytes(), &mut connections) > 0 {
+    let served = answer_by(
+        rt.alloc(),
+        Some(routes),
+        keeper,
+        key.as_bytes(),
+        &mut Device::new(timed),
+        &mut Device::new(timed),
+    );
+    if served.is_ok() {
         end(rt, stream)?;
     }
     Ok(())

@@ -18,19 +18,19 @@ pub returns-in-Err-clause-responds : goal.returns-in-Err-clause-responds
 returns-in-Err-clause-responds g c h is =
     let k = g.K.Keeper in
     let r = c.args.request.now in
-    let found = wish_found_by c.args.caller h c.read-method.result r.method.now r.path.now c.asker_of.result _ (Err c.in-Err.status)
-    c.read-method.ensures c.asker_of.ensures c.find.ensures is.method is.path c.in-Err.ensures in
+    let found = wish_found_by c.args.caller h c.read-method.result r.method.now r.path.now c.asker_of.result _ _ (Err c.in-Err.status)
+    c.read-method.ensures c.asker_of.ensures c.find.ensures.get c.find.ensures.post is.method is.path c.in-Err.ensures in
     no_wish k.stands k.is_clean k.is_live k.leaves k.is_same k.same_self c.args.keeper.now (g.R.Source.unread c.args.reader.now) c.fixed-in-Err.result c.args.caller h r.after_head.now
-    c.in-Err.status c.fixed-in-Err.ensures (wish_refused _ _ _ c.in-Err.status c.in-Err.ensures) found
+    c.in-Err.status c.fixed-in-Err.ensures (wish_refused _ _ _ _ c.in-Err.status c.in-Err.ensures) found
 
-pub returns-clause-responds : goal.returns-clause-responds
-returns-clause-responds g c h is =
+pub returns-in-Err-body_length_of-clause-responds : goal.returns-in-Err-body_length_of-clause-responds
+returns-in-Err-body_length_of-clause-responds g c h is =
     let k = g.K.Keeper in
     let r = c.args.request.now in
-    let asked = c.in-Ok-asked_of.asked in
-    let w : Wish = record { want = asked.want; driver = asked.driver.now; word = asked.word.now } in
-    let found = wish_found_by c.args.caller h c.read-method.result r.method.now r.path.now c.asker_of.result _ (Ok w)
-    c.read-method.ensures c.asker_of.ensures c.find.ensures is.method is.path c.in-Ok-asked_of.ensures in
+    let asked = c.in-Ok.asked in
+    let w : Wish = record { want = asked.place.want; driver = asked.driver.now; word = asked.word.now } in
+    let found = wish_found_by c.args.caller h c.read-method.result r.method.now r.path.now c.asker_of.result _ _ (Ok w)
+    c.read-method.ensures c.asker_of.ensures c.find.ensures.get c.find.ensures.post is.method is.path c.in-Ok.ensures in
     let long = length_found h c.read-method.result r.method.now w.want c.takes_input-takes.result (map (header_bytes r.buffer.now) r.fields.now) (Err c.in-Err-body_length_of.status)
     c.read-method.ensures c.takes_input-takes.ensures is.method is.fields c.in-Err-body_length_of.ensures in
     no_length k.stands k.is_clean k.is_live k.leaves k.is_same k.same_self c.args.keeper.now (g.R.Source.unread c.args.reader.now) c.fixed-in-Err-body_length_of.result c.args.caller h r.after_head.now w
@@ -41,10 +41,10 @@ pub returns-in-Ok-body_length_of-clause-responds : goal.returns-in-Ok-body_lengt
 returns-in-Ok-body_length_of-clause-responds g c h is =
     let k = g.K.Keeper in
     let r = c.args.request.now in
-    let asked = c.in-Ok-asked_of.asked in
-    let w : Wish = record { want = asked.want; driver = asked.driver.now; word = asked.word.now } in
-    let found = wish_found_by c.args.caller h c.read-method.result r.method.now r.path.now c.asker_of.result _ (Ok w)
-    c.read-method.ensures c.asker_of.ensures c.find.ensures is.method is.path c.in-Ok-asked_of.ensures in
+    let asked = c.in-Ok.asked in
+    let w : Wish = record { want = asked.place.want; driver = asked.driver.now; word = asked.word.now } in
+    let found = wish_found_by c.args.caller h c.read-method.result r.method.now r.path.now c.asker_of.result _ _ (Ok w)
+    c.read-method.ensures c.asker_of.ensures c.find.ensures.get c.find.ensures.post is.method is.path c.in-Ok.ensures in
     let long = length_found h c.read-method.result r.method.now w.want c.takes_input-takes.result (map (header_bytes r.buffer.now) r.fields.now) (Ok c.in-Ok-body_length_of.length)
     c.read-method.ensures c.takes_input-takes.ensures is.method is.fields c.in-Ok-body_length_of.ensures in
     by_wish k.stands k.is_clean k.is_live k.leaves k.is_same k.same_self c.args.keeper.now c.run_task.new.keeper (is_command w.want) (g.R.Source.unread c.args.reader.now)
@@ -55,8 +55,8 @@ returns-in-Ok-body_length_of-clause-responds g c h is =
 pub returns-in-Ok-body_length_of-clause-lacks : goal.returns-in-Ok-body_length_of-clause-lacks
 returns-in-Ok-body_length_of-clause-lacks g c h key is has err =
     let r = c.args.request.now in
-    let asked = c.in-Ok-asked_of.asked in
-    let w : Wish = record { want = asked.want; driver = asked.driver.now; word = asked.word.now } in
+    let asked = c.in-Ok.asked in
+    let w : Wish = record { want = asked.place.want; driver = asked.driver.now; word = asked.word.now } in
     let l = c.run_task.ensures.lacks err in
     record {
       given = l.given;
@@ -67,8 +67,8 @@ returns-in-Ok-body_length_of-clause-lacks g c h key is has err =
         caller = c.args.caller;
         is_by = (refl, refl);
         wish = w;
-        wants = wish_found_by c.args.caller h c.read-method.result r.method.now r.path.now c.asker_of.result _ (Ok w)
-            c.read-method.ensures c.asker_of.ensures c.find.ensures is.method is.path c.in-Ok-asked_of.ensures;
+        wants = wish_found_by c.args.caller h c.read-method.result r.method.now r.path.now c.asker_of.result _ _ (Ok w)
+            c.read-method.ensures c.asker_of.ensures c.find.ensures.get c.find.ensures.post is.method is.path c.in-Ok.ensures;
         count = c.in-Ok-body_length_of.length;
         body = length_found h c.read-method.result r.method.now w.want c.takes_input-takes.result (map (header_bytes r.buffer.now) r.fields.now)
             (Ok c.in-Ok-body_length_of.length) c.read-method.ensures c.takes_input-takes.ensures is.method is.fields c.in-Ok-body_length_of.ensures;

@@ -14,14 +14,14 @@ use Rattle.tacho_http.proofs.checks.run_task.Goals as goal
 pub returns-in-Err-Memory-clause-responds : goal.returns-in-Err-Memory-clause-responds
 returns-in-Err-Memory-clause-responds g c =
     let k = g.K.Keeper in
-    let w : Wish = record { want = c.args.asked.want; driver = c.args.asked.driver.now; word = c.args.asked.word.now } in
+    let w : Wish = record { want = c.args.asked.place.want; driver = c.args.asked.driver.now; word = c.args.asked.word.now } in
     unavailable k.stands k.is_clean k.is_live k.leaves k.is_same k.same_self c.args.keeper.now (is_command w.want) (g.R.Source.unread c.args.reader.now) c.fixed-in-Err-Memory.result
     (λ left s. Runs w c.args.count c.args.caller (c.args.after_head.now ++ left) s) c.fixed-in-Err-Memory.ensures
 
 pub returns-in-Err-Read-clause-responds : goal.returns-in-Err-Read-clause-responds
 returns-in-Err-Read-clause-responds g c =
     let k = g.K.Keeper in
-    let w : Wish = record { want = c.args.asked.want; driver = c.args.asked.driver.now; word = c.args.asked.word.now } in
+    let w : Wish = record { want = c.args.asked.place.want; driver = c.args.asked.driver.now; word = c.args.asked.word.now } in
     unread_body k.stands k.is_clean k.is_live k.leaves k.is_same k.same_self c.args.keeper.now (is_command w.want) (g.R.Source.unread c.args.reader.now) _
     (λ left s. Runs w c.args.count c.args.caller (c.args.after_head.now ++ left) s)
 
@@ -32,7 +32,7 @@ returns-in-Ok-task-clause-responds g c =
     let t = c.in-Ok-task.task in
     let keeper = c.args.keeper.now in
     let new = c.carry_out.new.keeper in
-    let w : Wish = record { want = c.args.asked.want; driver = c.args.asked.driver.now; word = c.args.asked.word.now } in
+    let w : Wish = record { want = c.args.asked.place.want; driver = c.args.asked.driver.now; word = c.args.asked.word.now } in
     let task : IsTask w.want c.args.caller w.driver w.word (Ok t) = rw c.as_bytes.ensures.value at (rw c.as_bytes-2.ensures.value at c.in-Ok-task.ensures.task) in
     carried_out k.stands k.is_clean k.is_live k.leaves k.is_same k.same_self keeper new (is_command w.want) (g.R.Source.unread c.args.reader.now) c.reply.result answer
     w c.args.count c.args.caller c.args.after_head.now c.in-Ok.body.items t
@@ -44,7 +44,7 @@ pub returns-clause-responds : goal.returns-clause-responds
 returns-clause-responds g c =
     let k = g.K.Keeper in
     let f = c.in-Err.fault in
-    let w : Wish = record { want = c.args.asked.want; driver = c.args.asked.driver.now; word = c.args.asked.word.now } in
+    let w : Wish = record { want = c.args.asked.place.want; driver = c.args.asked.driver.now; word = c.args.asked.word.now } in
     let wrong : IsTask w.want c.args.caller w.driver w.word (Err f) = rw c.as_bytes.ensures.value at (rw c.as_bytes-2.ensures.value at c.in-Err.ensures.task) in
     wrong_word k.stands k.is_clean k.is_live k.leaves k.is_same k.same_self c.args.keeper.now (is_command w.want) (g.R.Source.unread c.args.reader.now) c.refusal.result
     w c.args.count c.args.caller c.args.after_head.now c.in-Ok.body.items f c.refusal.ensures c.in-Ok.ensures.body wrong

@@ -2,7 +2,7 @@ use Rattle.std.proofs.Common.{◌≤◌, List, length, refl, subst, take, ℕ}
 use Rattle.std.specs.Io.KnownBytes.{Appends}
 use Rattle.tacho_message.specs.Reply.{reply_bytes}
 use Rattle.tacho_http.proofs.RespondLemmas.{exchanged_begun, exchanged_unread, exchanged_whole, left_known}
-use Rattle.tacho_http.proofs.exchange.answer.Goals as goal
+use Rattle.tacho_http.proofs.exchange.answer_by.Goals as goal
 
 pub returns-in-Ok-write_reply-clause-exchanged : goal.returns-in-Ok-write_reply-clause-exchanged
 returns-in-Ok-write_reply-clause-exchanged g c =
