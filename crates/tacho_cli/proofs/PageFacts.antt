@@ -1,7 +1,6 @@
--- Values in the documents, computed: the subcommands with their arguments, and the status and line of a fault.
-use Rattle.std.proofs.Common.{◌≡◌, ◌∷◌, ◌++◌, List, [], Option, Some, None, codes, map, refl}
-use Rattle.std.specs.Prelude.{flat_map, replicate}
-use Rattle.clap.specs.Words.{Text}
+-- Values in the documents, computed: what each subcommand does, and the status and line of a fault.
+use Rattle.std.proofs.Common.{◌≡◌, ◌∷◌, List, [], Some, None, codes, map, refl}
+use Rattle.std.specs.Prelude.{replicate}
 use Rattle.tacho_time.specs.declared.fault.TimeFault.TheVariants as time
 use Rattle.tacho_card.specs.declared.fault.CardFault.{CardFault}
 use Rattle.tacho_card.specs.declared.fault.CardFault.TheVariants as card
@@ -12,10 +11,8 @@ use Rattle.tacho_sheet.specs.declared.fault.LeftOut.TheVariants as left_out
 use Rattle.tacho_sheet.specs.declared.fault.SheetFault.TheVariants as sheet
 use Rattle.tacho_desk.specs.declared.fault.Fault.TheVariants as fault
 use Rattle.tacho_cli.specs.Fault.{command_fault_line, exit_status}
-use Rattle.tacho_cli.specs.Words.{act_named, driver_id, has_driver, word_id}
-use Rattle.tacho_desk.specs.Commands.{Row, all_commands}
-use Rattle.tacho_desk.specs.declared.table.Act.{Act}
-use Rattle.tacho_desk.specs.declared.table.Act.TheVariants as act
+use Rattle.tacho_cli.specs.Words.{act_named}
+use Rattle.tacho_desk.specs.Commands.{all_commands}
 
 -- ---- subcommands
 
@@ -26,35 +23,6 @@ each_named = refl
 -- another name is no subcommand
 other_name : act_named (codes "holders") all_commands ≡ None
 other_name = refl
-
--- a subcommand and its arguments, as they are given
-abbrev given : Row → Text
-given row = row.name ++ flat_map (λ word. codes " " ++ word) row.words
-
-all_given : map given all_commands
-    ≡ codes "dump" ∷ codes "holder" ∷ codes "card part" ∷ codes "init archive" ∷ codes "migrate archive"
-    ∷ codes "check archive" ∷ codes "register archive"
-    ∷ codes "import archive part" ∷ codes "enter archive driver" ∷ codes "withdraw archive driver number" ∷ codes "base archive driver date"
-    ∷ codes "key archive driver"
-    ∷ codes "spans archive driver month" ∷ codes "gaps archive driver month" ∷ codes "sheet archive driver month" ∷ codes "chart archive driver month"
-    ∷ codes "breaches archive driver" ∷ codes "why archive driver month" ∷ codes "owed archive driver" ∷ codes "entries archive driver"
-    ∷ codes "file archive driver number" ∷ codes "files archive driver" ∷ codes "drivers archive" ∷ codes "stretches archive driver" ∷ codes "debts archive driver"
-    ∷ codes "overview archive month" ∷ codes "incidents archive month" ∷ codes "form archive driver"
-    ∷ codes "serve archive key port count" ∷ codes "listen archive port count" ∷ codes "version" ∷ []
-all_given = refl
-
--- an optional argument
-abbrev one : Option Text → List Text
-one (Some id) = id ∷ []
-one None = []
-
--- the arguments of a job at an archive are the archive, the driver (if one is named), and the other argument
-abbrev read_words : Act → List Text → List Text
-read_words (act.AtDesk w) words = codes "archive" ∷ (one (driver_id (has_driver w)) ++ one (word_id w))
-read_words a words = words
-
-words_are_read : map (λ row. read_words row.act row.words) all_commands ≡ map (λ row. row.words) all_commands
-words_are_read = refl
 
 -- ---- faults
 

@@ -1,5 +1,6 @@
 -- Trusted in part: The command line, and the job that its arguments name.
 use Rattle.std.specs.Prelude.{◌≡◌, ◌≢◌, ◌⊎◌, ℕ, Bool, true, false, List, [], ◌∷◌, Option, None, Some, bytes_eq, codes, if◌then◌else◌}
+use Rattle.std.specs.Option.{option_or}
 use Rattle.tacho_sheet.specs.Number.{HasNoNumber, IsNumberText}
 use Rattle.clap.specs.Words.{App, Row, Rule, Text, first_of, new_app, new_rule, with_rule, with_subcommand}
 use Rattle.clap.specs.declared.error.kind.ErrorKind.{ErrorKind}
@@ -10,8 +11,6 @@ use Rattle.tacho_desk.specs.Wants.{takes_input}
 use Rattle.tacho_desk.specs.declared.table.Act.{Act}
 use Rattle.tacho_desk.specs.declared.table.Act.TheVariants as act
 use Rattle.tacho_desk.specs.Commands.{Row as Command, all_commands}
-use Rattle.tacho_desk.specs.declared.want.Want.{Want}
-use Rattle.tacho_desk.specs.declared.want.Want.TheVariants as want
 use Rattle.tacho_cli.specs.declared.job.Job.{Job}
 use Rattle.tacho_cli.specs.declared.job.Job.TheVariants as job
 
@@ -63,36 +62,19 @@ IsWord rows id text = first_of id rows ≡ Some text
 abbrev pub IsNumbered : List Row → Text → ℕ → ℕ → Type 0
 IsNumbered rows id most n = (text : Text) × IsWord rows id text × IsNumberText most text n
 
--- the arguments name a driver
-abbrev pub has_driver : Want → Bool
-has_driver want.Register = false
-has_driver want.Import = false
-has_driver want.Drivers = false
-has_driver want.Version = false
-has_driver (want.MonthOfAll text) = false
-has_driver other = true
+-- the text of an argument, or an empty text if there is none
+abbrev pub or_empty : Option Text → Text
+or_empty None = []
+or_empty (Some text) = text
 
--- the name of the other argument
-abbrev pub word_id : Want → Option Text
-word_id want.Import = Some (codes "part")
-word_id want.Withdraw = Some (codes "number")
-word_id want.File = Some (codes "number")
-word_id want.Base = Some (codes "date")
-word_id (want.MonthReading text) = Some (codes "month")
-word_id (want.MonthOfAll text) = Some (codes "month")
-word_id other = None
+-- the driver's number; below, the other argument: a part, a number, a date or a month
+abbrev pub driver_text : List Row → Text
+driver_text rows = or_empty (first_of (codes "driver") rows)
 
--- the argument with this name is this text; or there is none, and the text is empty
-abbrev pub IsWordText : Option Text → List Row → Text → Type 0
-IsWordText (Some id) rows text = IsWord rows id text
-IsWordText None rows text = text ≡ []
-
-abbrev pub driver_id : Bool → Option Text
-driver_id true = Some (codes "driver")
-driver_id false = None
-
-abbrev pub IsDriverText : Want → List Row → Text → Type 0
-IsDriverText w = IsWordText (driver_id (has_driver w))
+abbrev pub other_text : List Row → Text
+other_text rows =
+    or_empty (option_or (option_or (first_of (codes "part") rows) (first_of (codes "number") rows))
+    (option_or (first_of (codes "date") rows) (first_of (codes "month") rows)))
 
 -- the job of a subcommand, with the arguments in these rows
 abbrev pub IsJobOf : Act → List Row → Job → Type 0
@@ -103,7 +85,7 @@ IsJobOf act.Init rows (job.Init archive) = IsWord rows (codes "archive") archive
 IsJobOf act.Migrate rows (job.Migrate archive) = IsWord rows (codes "archive") archive.now
 IsJobOf act.Check rows (job.Check archive) = IsWord rows (codes "archive") archive.now
 IsJobOf (act.AtDesk w) rows (job.AtDesk j) =
-    (j.want ≡ w) × IsWord rows (codes "archive") j.archive.now × IsDriverText w rows j.driver.now × IsWordText (word_id w) rows j.word.now
+    (j.want ≡ w) × IsWord rows (codes "archive") j.archive.now × (j.driver.now ≡ driver_text rows) × (j.word.now ≡ other_text rows)
 IsJobOf act.Serve rows (job.Serve archive key port count) =
     IsWord rows (codes "archive") archive.now × IsWord rows (codes "key") key.now
     × IsNumbered rows (codes "port") 65535 port × IsNumbered rows (codes "count") 1000000 count

@@ -1,7 +1,6 @@
 //! The commands of the program `tacho`.
 #![tactic(auto)]
 
-mod act;
 mod commands;
 mod job;
 mod listen;

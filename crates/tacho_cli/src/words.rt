@@ -1,11 +1,10 @@
-ghost use Rattle.std.specs.Prelude.{◌≡◌, [], IfOk, IfErr, IfSome, codes, false, map, string_bytes};
-ghost use Rattle.clap.specs.Words.{app_of, fault_of, found_of, kind_of, new_app, rows_of, rule_of, subcommand_of, takes};
+ghost use Rattle.std.specs.Prelude.{◌≡◌, [], IfOk, IfErr, codes, false, map, option_map, string_bytes};
+ghost use Rattle.clap.specs.Words.{app_of, fault_of, first_of, found_of, kind_of, new_app, rows_of, rule_of, subcommand_of, takes};
 ghost use Rattle.clap.specs.declared.builder.command.Command.TheViews.{out-Command as fields_of};
 ghost use Rattle.tacho_desk.specs.Commands.{all_commands, row_of};
-ghost use Rattle.tacho_cli.specs.Words.{act_named, needs_subcommand, tacho_app, with_table, with_words, word_id, word_rule};
-ghost use Rattle.tacho_cli.specs.Words.{IsActUsage, IsDriverText, IsJob, IsJobOf, IsNumbered, IsPortUsage, IsRefusal, IsUsage, IsWord, IsWordText};
+ghost use Rattle.tacho_cli.specs.Words.{act_named, needs_subcommand, or_empty, other_text, tacho_app, with_table, with_words, word_rule};
+ghost use Rattle.tacho_cli.specs.Words.{IsActUsage, IsJob, IsJobOf, IsNumbered, IsPortUsage, IsRefusal, IsUsage};
 
-use crate::act::{names_driver, word_of};
 use crate::job::{DeskJob, Job};
 use clap::error::ErrorKind;
 use clap::{Arg, ArgMatches, Command, Error};
@@ -133,33 +132,30 @@ fn act_of(name: &str) -> Option<Act>
     act_in(command_table(), name)
 }
 
-/// The text of an argument.
-fn text_of<'a>(matches: &ArgMatches<'a>, id: &str) -> Option<&'a str>
-    ensures { IfSome result (λ text. IsWord (rows_of (found_of matches.now)) id.now text.now) }
+/// The text of an argument, if there is one.
+fn text_of<'a>(words: &ArgMatches<'a>, id: &str) -> Option<&'a str>
+    ensures { option_map (λ text. text.now) result ≡ first_of id.now (rows_of (found_of words.now)) }
 {
-    let text = matches.get_str(id)?;
-    Some(text)
+    words.get_str(id)
 }
 
-/// The driver's number as text, or an empty text if the arguments name no driver.
-fn driver_text<'a>(want: Want, words: &ArgMatches<'a>) -> Option<&'a str>
-    ensures { IfSome result (λ text. IsDriverText want (rows_of (found_of words.now)) text.now) }
+/// A text, or an empty text if there is none.
+fn text_or_empty<'a>(text: Option<&'a str>) -> &'a str
+    ensures { result.now ≡ or_empty (option_map (λ text. text.now) text.entry) }
 {
-    if names_driver(want) {
-        text_of(words, "driver")
-    } else {
-        Some("")
+    match text {
+        Some(text) => text,
+        None => "",
     }
 }
 
-/// The other argument, or an empty text if there is none.
-fn word_text<'a>(want: Want, words: &ArgMatches<'a>) -> Option<&'a str>
-    ensures { IfSome result (λ text. IsWordText (word_id want) (rows_of (found_of words.now)) text.now) }
+/// The argument other than the archive and the driver: a part, a number, a date or a month. An empty text if there is none.
+fn other_of<'a>(words: &ArgMatches<'a>) -> &'a str
+    ensures { result.now ≡ other_text (rows_of (found_of words.now)) }
 {
-    match word_of(want) {
-        Some(id) => text_of(words, id),
-        None => Some(""),
-    }
+    let number = text_of(words, "part").or(text_of(words, "number"));
+    let time = text_of(words, "date").or(text_of(words, "month"));
+    text_or_empty(number.or(time))
 }
 
 /// Makes the job of a subcommand from its arguments.
@@ -201,9 +197,8 @@ fn desk_of<'a>(want: Want, words: &ArgMatches<'a>) -> Result<Job<'a>, Usage>
     let Some(archive) = text_of(words, "archive") else {
         return Err(Usage::Parser);
     };
-    let (Some(driver), Some(word)) = (driver_text(want, words), word_text(want, words)) else {
-        return Err(Usage::Parser);
-    };
+    let driver = text_or_empty(text_of(words, "driver"));
+    let word = other_of(words);
     Ok(Job::AtDesk(DeskJob {
         archive,
         want,

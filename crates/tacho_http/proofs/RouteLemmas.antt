@@ -5,9 +5,7 @@ use Rattle.std.proofs.lemmas.Grind.{common_steps}
 use Rattle.std.specs.Prelude.{OnOk}
 use Rattle.matchit.proofs.OnLiterals.{matchit_on_literals}
 use Rattle.matchit.specs.Route.{Scan, parse_route}
-use Rattle.matchit.specs.Params.{named}
-use Rattle.matchit.specs.Router.{InsertsRead, RouteOf}
-use Rattle.matchit.specs.Seek.{first}
+use Rattle.matchit.specs.Router.{InsertsRead}
 use Rattle.matchit.specs.declared.error.InsertError.{InsertError}
 use mathlib.Core.Bool.{beq, not}
 use Rattle.tacho_desk.specs.Commands.{Row, all_commands}
@@ -17,7 +15,7 @@ use Rattle.tacho_http.specs.declared.places.Asker.TheVariants.{Driver, Office}
 use Rattle.tacho_message.specs.declared.method.Method.TheVariants.{Get, Post}
 use Rattle.tacho_http.specs.declared.places.Place.{Place}
 use Rattle.tacho_http.specs.Offers.{offer_at, offers_by, offers_in, offers_of}
-use Rattle.tacho_http.specs.Routes.{Offer, Rows, named_in, or_empty, parts_of, routes, with_offers, with_read}
+use Rattle.tacho_http.specs.Routes.{Offer, Rows, routes, with_offers, with_read}
 
 -- a route is added if its text is valid
 pub inserted : (rows after : Rows) (place : Place) (path : List ℕ) (read : Result Scan InsertError) (result : Result (Unit {0}) InsertError)
@@ -98,9 +96,3 @@ commands_got = refl
 pub commands_posted : with_offers [] (offers_in true all_commands) ≡ routes Post
 unfolding matchit_on_literals routes with_offers
 commands_posted = refl
-
--- what a path names, by the route that it matches
-pub names_found : (rows : Rows) (path : List ℕ) (route : RouteOf Place) (driver word : List ℕ) → first rows path ≡ Some route
-    → driver ≡ or_empty (named (codes "driver") (parts_of route path)) → word ≡ or_empty (named (codes "word") (parts_of route path))
-    → Some (record { place = route.value; driver = driver; word = word }) ≡ named_in rows path
-names_found rows path route driver word is d w = rw (is, d, w) refl

@@ -1,8 +1,7 @@
 -- Trusted in part: The routes, and what a path names.
-use Rattle.std.specs.Prelude.{ℕ, List, [], ◌∷◌, ◌++◌, Option, Some, None, option_map, codes, flat_map, Result, Ok, Err}
+use Rattle.std.specs.Prelude.{ℕ, List, [], ◌∷◌, ◌++◌, Option, Some, None, option_map, codes, flat_map, Result, Ok, Err, ◌==◌, drop, if◌then◌else◌}
 use Rattle.matchit.specs.Rows.{RowsOf}
 use Rattle.matchit.specs.Order.{placed}
-use Rattle.matchit.specs.Params.{named, walk}
 use Rattle.matchit.specs.Route.{Scan, parse_route}
 use Rattle.matchit.specs.Router.{RouteOf, route_from}
 use Rattle.matchit.specs.Seek.{first}
@@ -113,26 +112,32 @@ routes m = with_offers [] (flat_map (offered m) all_routes)
 
 -- ---- what a path names
 
--- the place, the number of a driver, and the other argument (a part, a number, a day or a month); each is empty if the route has none
+-- the bytes before the first slash
+abbrev pub before_slash : List ℕ → List ℕ
+before_slash [] = []
+before_slash (b ∷ path) = if b == 47 then [] else b ∷ before_slash path
+
+-- the part of a path after `/drivers/`
+abbrev pub driver_part : List ℕ → List ℕ
+driver_part path = before_slash (drop 9 path)
+
+-- the last part of a path: a part begins with the path and after each slash
+abbrev pub last_from : List ℕ → List ℕ → List ℕ
+last_from part [] = part
+last_from part (b ∷ path) = if b == 47 then last_from path path else last_from part path
+
+abbrev pub last_part : List ℕ → List ℕ
+last_part path = last_from path path
+
+-- the place, the number of a driver, and the other argument (a part of a card file, a number, a day or a month); a task without such an
+-- argument ignores it
 pub record Named : Type 0 where
   pub place : Place
   pub driver : List ℕ
   pub word : List ℕ
 
--- the texts that match the parts in braces of a route, by name
-abbrev pub parts_of : RouteOf Place → List ℕ → List (List ℕ × List ℕ)
-parts_of route path = walk route.pattern route.text path route.names 0 0
-
-abbrev pub or_empty : Option (List ℕ) → List ℕ
-or_empty None = []
-or_empty (Some text) = text
-
 abbrev pub named_by : List ℕ → RouteOf Place → Named
-named_by path route = record {
-  place = route.value;
-  driver = or_empty (named (codes "driver") (parts_of route path));
-  word = or_empty (named (codes "word") (parts_of route path));
-}
+named_by path route = record { place = route.value; driver = driver_part path; word = last_part path }
 
 abbrev pub named_in : Rows → List ℕ → Option Named
 named_in rows path = option_map (named_by path) (first rows path)

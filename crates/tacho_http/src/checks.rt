@@ -125,7 +125,7 @@ fn run_task<K: Keeper, R: Source>(
         Err(BodyFault::Read) => return Err(Failed),
     };
     let want = asked.place.want;
-    let task = task_of(want, caller, asked.driver.as_bytes(), asked.word.as_bytes());
+    let task = task_of(want, caller, asked.driver, asked.word);
     match task {
         Ok(task) => Ok(reply(want, carry_out(alloc, keeper, task, &body))),
         Err(fault) => Ok(refusal(fault)),

@@ -1,17 +1,19 @@
 //! What paths offer. The routes come from the table of commands.
 
 ghost use Rattle.std.specs.Prelude.{◌≡◌, IfOk, OnOk, [], map, option_map};
-ghost use Rattle.tacho_message.specs.declared.method.Method.{Method as MethodValue};
 ghost use Rattle.tacho_message.specs.declared.method.Method.TheVariants.{Get, Post};
 ghost use Rattle.tacho_desk.specs.Commands.{row_of};
 ghost use Rattle.tacho_http.specs.Offers.{offer_at, offers_in, offers_of, want_of as want_at};
-ghost use Rattle.tacho_http.specs.Routes.{named_in, named_found, or_empty, routes, with_offers};
-ghost use Rattle.matchit.specs.Params.{AllText, named, walk};
+ghost use Rattle.tacho_http.specs.Routes.{driver_part, last_part, named_in, named_found, routes, with_offers};
 
-use matchit::{InsertError, Params, Router};
+use matchit::{InsertError, Router};
+use memchr::{memchr, memrchr};
 use std::alloc::Global;
 use std::marker::Model;
 use tacho_desk::{Act, Command, Want, command_table};
+
+/// The length of `/drivers/`.
+const OF_DRIVER: usize = 9;
 
 /// Who asks.
 #[derive(Clone, Copy, PartialEq, Eq)]
@@ -115,12 +117,14 @@ impl Model for Routes {
     ghost invariant = { λ r. (r.get ≡ routes Get) × (r.post ≡ routes Post) };
 }
 
-/// What a path names: the place, the number of a driver, and the other argument. Each of these two is empty if the route has none.
+/// What a path names: the place, and the arguments in the path. A task without such an argument ignores it.
 #[derive(Clone, Copy)]
 pub(crate) struct Found<'p> {
     pub place: Place,
-    pub driver: &'p str,
-    pub word: &'p str,
+    /// The part after `/drivers/`.
+    pub driver: &'p [u8],
+    /// The last part.
+    pub word: &'p [u8],
 }
 
 /// What a path names by each method.
@@ -150,27 +154,39 @@ impl Routes {
     }
 }
 
-/// The text that matches the part in braces with this name, or an empty text.
-fn part_of<'p>(params: &Params<'_, 'p>, name: &str) -> &'p str
-    requires { AllText (walk params.now.pattern.now params.now.text.now params.now.path.now params.now.names.now 0 0) }
-    ensures { result.now ≡ or_empty (named name.now (walk params.now.pattern.now params.now.text.now params.now.path.now params.now.names.now 0 0)) }
+/// The part of a path after `/drivers/`.
+fn driver_of(path: &[u8]) -> &[u8]
+    ensures { result.now ≡ driver_part path.now }
 {
-    match params.get(name) {
-        Some(text) => text,
-        None => "",
+    if path.len() < OF_DRIVER {
+        return &[];
+    }
+    let rest = &path[OF_DRIVER..];
+    match memchr(b'/', rest) {
+        Some(end) => &rest[..end],
+        None => rest,
+    }
+}
+
+/// The last part of a path.
+fn word_of(path: &[u8]) -> &[u8]
+    ensures { result.now ≡ last_part path.now }
+{
+    match memrchr(b'/', path) {
+        Some(slash) => &path[slash + 1..],
+        None => path,
     }
 }
 
 /// Finds what a path names in a router of one method.
 fn find_in<'p>(router: &Router<Place>, path: &'p str) -> Option<Found<'p>>
-    requires { (m : MethodValue) × (router.now ≡ routes m) }
     ensures { option_map named_found result ≡ named_in router.now path.now }
 {
     match router.at(path) {
         Ok(found) => Some(Found {
             place: *found.value,
-            driver: part_of(&found.params, "driver"),
-            word: part_of(&found.params, "word"),
+            driver: driver_of(path.as_bytes()),
+            word: word_of(path.as_bytes()),
         }),
         Err(_) => None,
     }

@@ -33,7 +33,7 @@ returns-in-Ok-task-clause-responds g c =
     let keeper = c.args.keeper.now in
     let new = c.carry_out.new.keeper in
     let w : Wish = record { want = c.args.asked.place.want; driver = c.args.asked.driver.now; word = c.args.asked.word.now } in
-    let task : IsTask w.want c.args.caller w.driver w.word (Ok t) = rw c.as_bytes.ensures.value at (rw c.as_bytes-2.ensures.value at c.in-Ok-task.ensures.task) in
+    let task : IsTask w.want c.args.caller w.driver w.word (Ok t) = c.in-Ok-task.ensures.task in
     carried_out k.stands k.is_clean k.is_live k.leaves k.is_same k.same_self keeper new (is_command w.want) (g.R.Source.unread c.args.reader.now) c.reply.result answer
     w c.args.count c.args.caller c.args.after_head.now c.in-Ok.body.items t
     (subst (λ (want : Want). reply_of c.reply.result ≡ reply_to want answer) (sym c.in-Ok-task.ensures.want) c.reply.ensures) c.in-Ok.ensures.body task
@@ -45,6 +45,6 @@ returns-clause-responds g c =
     let k = g.K.Keeper in
     let f = c.in-Err.fault in
     let w : Wish = record { want = c.args.asked.place.want; driver = c.args.asked.driver.now; word = c.args.asked.word.now } in
-    let wrong : IsTask w.want c.args.caller w.driver w.word (Err f) = rw c.as_bytes.ensures.value at (rw c.as_bytes-2.ensures.value at c.in-Err.ensures.task) in
+    let wrong : IsTask w.want c.args.caller w.driver w.word (Err f) = c.in-Err.ensures.task in
     wrong_word k.stands k.is_clean k.is_live k.leaves k.is_same k.same_self c.args.keeper.now (is_command w.want) (g.R.Source.unread c.args.reader.now) c.refusal.result
     w c.args.count c.args.caller c.args.after_head.now c.in-Ok.body.items f c.refusal.ensures c.in-Ok.ensures.body wrong
