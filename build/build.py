@@ -32,9 +32,9 @@ MEMORY_OF_A_JOB = 3 << 29
 # The kit's libraries that are linked into a program.
 LINKED = ("libos_c.a", "liblibc_c.a")
 
-# A crate that takes at least this many seconds is proved by two processes if no other crate waits for the second one. In a smaller crate
-# more than half of the time is loading, which each process does again.
-LARGE = 120
+# A crate that takes at least this many seconds is proved by two processes if there is room for them. In a smaller one more than half of the
+# time is loading, which each process does again.
+LARGE = 150
 
 # The seconds of processor time that each crate took in one process. They serve to find the longest chain of crates, and which crates are
 # large: a wrong number changes the order of the work and its speed, and nothing else.
@@ -331,7 +331,7 @@ def build(kit: Kit, below: Below, crates: Sequence[str], at_work: list[Work]) ->
         begun = False
         while ready and (free := room() - sum(work.jobs for work in at_work)) > 0:
             name = ready.pop(0)
-            jobs = 2 if free > 1 + len(ready) and seconds_of(name) >= LARGE else 1
+            jobs = 2 if free > 1 and seconds_of(name) >= LARGE else 1
             waiting.remove(name)
             before = sum(weight[work.name] > weight[name] for work in at_work)
             at_work.append(Work(name, kit, below, checksums[name], jobs, before))

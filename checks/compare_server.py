@@ -26,6 +26,7 @@ from lib import counting, pools, programs, seeds
 from lib.archive import of_tables, rows_at
 from lib.files import DOCS, copied
 from lib.office import WITH_ANNA, Desk
+from lib.programs import version_lines
 from lib.office_rows import (
     ANNA, BERT, BREACH, CARD, DAY, DAY_OFF, DAY_OFF_LINE, EXAMINED, FREE_DAYS, FREE_LINE, GAPS, HOLDER, HOURS_HEAD, INCIDENT_HEAD,
     LARGEST_DAY, LARGEST_HOURS, LIMIT, LONG_NOTE, MARCH, NO_AUTHOR, OVERVIEW_HEAD, SATURDAY, SIGNED_HEAD, SPANS, UNSEEN,
@@ -171,6 +172,27 @@ ROWS = {
         *[row(f"GET {path}", key, FORBIDDEN) for path in WITHOUT_NUMBER for key in [OFFICE, "anna-key-2", None]],
         *[row(f"GET {path}", key, FORBIDDEN) for path in FOR_OFFICE for key in [DRIVER, OTHER_DRIVER, "anna-key-2", None]],
         *[row(f"GET {path}", OFFICE, FORBIDDEN, f"x-key: {DRIVER}") for path in [*FOR_OFFICE, *WITHOUT_NUMBER]],
+    ],
+    "another key": [
+        row("GET /drivers/17/key", OFFICE, OTHER_METHOD),
+        row("POST /drivers/17/key", OFFICE, NO_LENGTH),
+        posted("/drivers/17/key", DRIVER, b"anna-key-2\n", FORBIDDEN),
+        posted("/me/key", DRIVER, b"anna-key-2\n", NOT_FOUND),
+        posted("/drivers/017/key", OFFICE, b"bad", BAD_NUMBER),
+        posted("/drivers/17/key", OFFICE, b"bad", line("422 Unprocessable Entity", 21, "E9 bad value for key")),
+        posted("/drivers/17/key", OFFICE, OFFICE.encode(), line("409 Conflict", 13, "S2 key taken")),
+        posted("/drivers/18/key", OFFICE, f"{OFFICE}\r\n".encode(), line("409 Conflict", 13, "S2 key taken")),
+        posted("/drivers/18/key", OFFICE, b"anna-key-2", line("404 Not Found", 18, "S4 unknown driver")),
+        posted("/drivers/17/key", OFFICE, b"anna-key-2\n", line("200 OK", 7, "key 17")),
+        row("GET /me/owed", DRIVER, FORBIDDEN),
+        row("GET /me/entries", "anna-key-2", told("200 OK", 0, "")),
+        posted("/drivers/17/key", OFFICE, DRIVER.encode(), line("200 OK", 7, "key 17")),
+    ],
+    "the version": [
+        *[read(path, key, version_lines()) for path, key in (("/version", OFFICE), ("/me/version", DRIVER))],
+        *[row(f"GET {path}", key, FORBIDDEN) for path, key in (("/version", DRIVER), ("/me/version", OFFICE), ("/version", None))],
+        row("POST /version", OFFICE, OTHER_METHOD),
+        row("GET /version/1", OFFICE, NOT_FOUND),
     ],
     "other methods of what can be read": [
         WITH_DAY,

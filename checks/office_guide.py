@@ -652,6 +652,17 @@ def asked_month(office):
         yield f"{name} of the service", office.read(name), office.told(*words.split())
 
 
+def asked_key(office):
+    """Another key for a driver by a request, and then the one that they had."""
+    yield office.typed("(umask 077; tr -dc a-zA-Z0-9 < /dev/urandom | head -c 32 > 17.key)", "key 17\n")
+    key = office.read("17.key")
+    yield "the file of the key by a request", (re.fullmatch("[a-zA-Z0-9]{32}", key) is not None, mode(office.path("17.key"))), (True, 0o600)
+    ask = f"curl -sS -o /dev/null -w '%{{http_code}}' -H 'x-key: {key}' http://127.0.0.1:8017/me/owed"
+    yield "the driver by their new key", office.type(ask), ("200", 0)
+    again = "printf anna-key-1 | curl -sS -H @office.head --data-binary @- http://127.0.0.1:8017/drivers/17/key"
+    yield "the key before", office.type(again), ("key 17\n", 0)
+
+
 def services(office):
     """The service, by its unit: made, asked, backed up, and restored."""
     root = office.root
@@ -668,6 +679,7 @@ def services(office):
     yield "a command while it serves", office.type("/usr/local/bin/tacho entries /var/lib/tacho/archive.db 17"), ("S12 store failed\n", 3)
     yield office.typed("(umask 077; echo \"x-key:", "repeated driver 17\n")
     yield from asked_month(office)
+    yield from asked_key(office)
     names = list(DOWNLOADS)[:8]
     loop = next(block for block in office.left if block.startswith(FOLDER_LOOP))
     yield office.typed(FOLDER_LOOP, *folder_text(names))

@@ -129,11 +129,6 @@ class Requests(office_lines.Lines):
         """The import of a new file by the office or by a driver."""
         return random_commands.Commands.import_new(self)
 
-    def command(self) -> Command:
-        """A command that has a path: the change of a key is the command line's alone."""
-        words, given = super().command()
-        return (words, given) if words[0] in PATHS else self.command()
-
     def reading(self) -> Command:
         """A reading that has a path: `check` and `migrate` are the command line's alone."""
         words, given = super().reading()

@@ -14,6 +14,7 @@ ADD_HOURS = posting("/drivers/17/entries", OFFICE, FREE_DAYS)
 SAME_HOLDER = BERT.replace(HOLDER[:-1].encode() + b"4", HOLDER.encode())
 OTHER_HOLDER = bytes.fromhex(CARD.replace(HOLDER, HOLDER[:-2] + "34") + "0504000010" + "00" * 16)
 OTHER_DRIVER = "bert-key-1"
+KEY = f"{OFFICE}\n".encode()
 LENGTH = "content-length: "
 WITH_DAY = [ADD_ANNA, ADD_DAY]
 
@@ -128,16 +129,17 @@ def paths() -> Iterator[Made]:
         ("DELETE", "/drivers", OFFICE), ("PUT", "/drivers", OFFICE), ("PUT", "/cards/both", OFFICE),
         ("HEAD", "/me/owed", DRIVER), ("POST", "/me/owed", DRIVER), ("POST", "/me/entries", DRIVER),
         ("GET", "/me/cards/both", DRIVER),
-        ("GET", "/drivers/17/withdraw/1", OFFICE), ("GET", "/drivers/17/base/2024-03-04", OFFICE),
+        ("GET", "/drivers/17/withdraw/1", OFFICE), ("GET", "/drivers/17/base/2024-03-04", OFFICE), ("GET", "/drivers/17/key", OFFICE),
+        ("POST", "/version", OFFICE), ("POST", "/me/version", DRIVER),
         ("POST", "/drivers/17/spans/2024-03", OFFICE), ("OPTIONS", "/drivers/17/entries", OFFICE),
         ("DELETE", "/drivers", DRIVER),
     ):
         yield made("path", 405, f"the path '{path}' hasn't the method {method}", [ADD_ANNA, asking(f"{method} {path}", key)])
     for path, body in (("/cards/both", DAY), ("/drivers/17/entries", FREE_DAYS), ("/drivers", BERT), ("/drivers/17/withdraw/1", b""),
-                       ("/drivers/17/base/2024-03-04", b"")):
+                       ("/drivers/17/base/2024-03-04", b""), ("/drivers/17/key", b"anna-key-2")):
         yield made("path", 403, f"a driver may not POST to '{path}'", [ADD_ANNA, posting(path, DRIVER, body)])
     yield made("path", 403, "the office may not POST to '/me/cards/both'", [ADD_ANNA, posting("/me/cards/both", OFFICE, DAY)])
-    for path in ("/me/withdraw/1", "/me/base/2024-03-11"):
+    for path in ("/me/withdraw/1", "/me/base/2024-03-11", "/me/key"):
         yield made("path", 404, f"a driver has no path '{path}'", [ADD_ANNA, posting(path, DRIVER, b"")])
     for path in (*OF_ALL, *(f"/drivers/17/{what}" for what in OF_ONE)):
         yield made("path", 403, f"a driver may not GET '{path}'", [ADD_ANNA, asking(f"GET {path}", DRIVER)])
@@ -170,6 +172,7 @@ def bodies() -> Iterator[Made]:
         (200, "a GET with a transfer-encoding", asking("GET /me/entries", DRIVER, "transfer-encoding: chunked")),
         (200, "a GET with wrong lengths", asking("GET /me/entries", DRIVER, f"{LENGTH}many", f"{LENGTH}262145")),
         (411, "a body without a length", asking("POST /drivers/17/entries", OFFICE, body=FREE_DAYS)),
+        (411, "a key without a length", asking("POST /drivers/17/key", OFFICE, body=b"anna-key-2")),
         (400, "two lengths", asking(drivers, OFFICE, f"{LENGTH}262145", f"{LENGTH}262145")),
         (400, "the right length twice", posting("/drivers", OFFICE, BERT, f"{LENGTH}{len(BERT)}")),
         (413, "a length of 262,145", asking(drivers, OFFICE, f"{LENGTH}262145")),
@@ -250,6 +253,11 @@ def refusals() -> Iterator[Made]:
         (404, "a card file of an unknown holder (S4)", [ADD_ANNA, posting("/cards/both", OFFICE, OTHER_HOLDER)]),
         (403, "a driver sends another one's card file (S5)", [ADD_ANNA, posting("/me/cards/both", DRIVER, OTHER_HOLDER)]),
         (409, "a card file contradicts entered hours (S6)", [ADD_ANNA, ADD_HOURS, posting("/me/cards/both", DRIVER, SATURDAY)]),
+        (422, "a key that is too short (E9), before the driver is looked for", [ADD_ANNA, posting("/drivers/18/key", OFFICE, b"anna\n")]),
+        (400, "a key for a number with a zero in front, before what is wrong with the key", [ADD_ANNA, posting("/drivers/017/key", OFFICE, b"")]),
+        (409, "a driver's key becomes the office's (S2), before the driver is looked for", [ADD_ANNA, posting("/drivers/18/key", OFFICE, KEY)]),
+        (409, "a driver's key becomes another driver's (S2)", [ADD_ANNA, ADD_BERT, posting("/drivers/17/key", OFFICE, b"bert-key-1")]),
+        (404, "a key for an unknown driver (S4)", [ADD_ANNA, posting("/drivers/18/key", OFFICE, b"anna-key-2")]),
         (404, "an unknown entry is withdrawn (S7)", [ADD_ANNA, asking("POST /drivers/17/withdraw/1", OFFICE)]),
         (409, "an entry is withdrawn twice (S8)", [ADD_ANNA, ADD_HOURS, *[asking("POST /drivers/17/withdraw/1", OFFICE)] * 2]),
     ]
@@ -260,6 +268,10 @@ def refusals() -> Iterator[Made]:
 def done() -> Iterator[Made]:
     """Requests that are done, and what they give."""
     yield made("done", 201, "a driver is registered", [ADD_ANNA])
+    changed = [ADD_ANNA, posting("/drivers/17/key", OFFICE, b"anna-key-2\r\n")]
+    yield made("done", 200, "a driver gets another key", changed)
+    yield made("done", 200, "a driver asks by their new key", [*changed, asking("GET /me/owed", "anna-key-2")])
+    yield made("done", 403, "a driver asks by the key that they had", [*changed, asking("GET /me/owed", DRIVER)])
     yield made("done", 201, "a card file is added by the office", WITH_DAY)
     yield made("done", 201, "a card file is added by the driver", [ADD_ANNA, posting("/me/cards/both", DRIVER, DAY)])
     yield made("done", 200, "the same card file is repeated", [*WITH_DAY, ADD_DAY])

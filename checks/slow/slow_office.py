@@ -10,6 +10,7 @@ import hashlib
 import re
 from collections.abc import Callable, Iterable, Sequence
 
+from lib.programs import version_lines
 from slow import slow_archive, slow_csv, slow_evidence, slow_reader, slow_rules
 from slow.slow_archive import Marks, Refusal
 from slow.slow_rules import FoundBreach, FoundDebt, Report
@@ -460,8 +461,9 @@ class Office:
     def __init__(self) -> None:
         self.archive = slow_archive.Archive()
 
-    def answer(self, words: Sequence[str], given: bytes = b"") -> tuple[bytes, int]:
-        """What a command line prints for an input, as bytes, and its status. After a refusal nothing has changed."""
+    def answer(self, words: Sequence[str], given: bytes = b"", reserved: str | None = None) -> tuple[bytes, int]:
+        """What a command line prints for an input, as bytes, and its status. After a refusal nothing has changed. A reserved key can't be
+        set."""
         command, *others = words
         commands: dict[str, Callable[[], str | bytes]] = {
             "register": lambda: self.register(given),
@@ -470,7 +472,7 @@ class Office:
             "enter": lambda: self.enter(given, *others),
             "withdraw": lambda: self.withdraw(*others),
             "base": lambda: self.rebase(*others),
-            "key": lambda: self.rekey(given, *others),
+            "key": lambda: self.rekey(given, reserved, *others),
             "spans": lambda: self.spans(*others),
             "gaps": lambda: self.gaps(*others),
             "sheet": lambda: self.sheet(*others),
@@ -489,6 +491,7 @@ class Office:
             "form": lambda: self.form(*others),
             "migrate": lambda: "migrated\n",
             "check": lambda: "sound\n",
+            "version": version_lines,
         }
         try:
             told = commands[command]()
@@ -536,10 +539,13 @@ class Office:
         self.archive.rebase(driver, day)
         return f"base {date}\n"
 
-    def rekey(self, given: bytes, number: str) -> str:
+    def rekey(self, given: bytes, reserved: str | None, number: str) -> str:
         """Sets another key: N1, X1, E9, S2, S4."""
         driver = number_of(number, LAST_DRIVER)
-        self.archive.rekey(driver, key_of(within(given)))
+        key = key_of(within(given))
+        if key == reserved:
+            raise Refusal("S2")
+        self.archive.rekey(driver, key)
         return f"key {driver}\n"
 
     def month(self, number: str, month: str) -> tuple[slow_archive.Driver, Month]:

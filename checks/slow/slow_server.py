@@ -8,7 +8,6 @@ import re
 from collections import namedtuple
 from collections.abc import Container
 
-from lib.programs import version_lines
 from slow.slow_office import INPUT_LIMIT, Office
 
 HEAD_LIMIT = 8_192
@@ -83,6 +82,7 @@ OFFICE_ROUTES = {
     "/overview/{month}": {"GET": "overview"},
     "/incidents/{month}": {"GET": "incidents"},
     "/version": {"GET": "version"},
+    "/drivers/{n}/key": {"POST": "key"},
 }
 # The same of a driver, whose number is the command's first argument.
 DRIVER_ROUTES = {
@@ -103,7 +103,7 @@ DRIVER_ROUTES = {
     "/me/version": {"GET": "version"},
 }
 ROUTES = {**OFFICE_ROUTES, **DRIVER_ROUTES}
-WITH_INPUT = ["register", "import", "own", "enter"]
+WITH_INPUT = ["register", "import", "own", "enter", "key"]
 
 
 # Heads
@@ -315,7 +315,7 @@ def reply_without_line(status: int) -> bytes:
 
 def reply_to_done(command: str, told: bytes) -> bytes:
     """The reply to a command that was done."""
-    is_added = command in WITH_INPUT and not told.startswith((b"repeated ", b"entered none"))
+    is_added = command in WITH_INPUT and command != "key" and not told.startswith((b"repeated ", b"entered none"))
     return reply_of(201 if is_added else 200, told, TYPES.get(command, TEXT))
 
 
@@ -366,7 +366,7 @@ class Server:
             return reply_without_line(refused.status)
         if len(rest) < length:
             return reply_without_line(400)
-        told, status = (version_lines(), 0) if words[0] == "version" else self.office.answer(words, rest[:length])
+        told, status = self.office.answer(words, rest[:length], self.office_key.decode())
         return reply_to_fault(told) if status else reply_to_done(words[0], told)
 
     def replies(self, given: bytes) -> list[bytes]:

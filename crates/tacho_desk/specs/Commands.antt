@@ -37,7 +37,7 @@ all_commands =
     ∷ row (codes "enter") (codes "archive" ∷ codes "driver" ∷ []) (AtDesk Enter) (codes "/drivers/{driver}/entries") []
     ∷ row (codes "withdraw") (codes "archive" ∷ codes "driver" ∷ codes "number" ∷ []) (AtDesk Withdraw) (codes "/drivers/{driver}/withdraw/{word}") []
     ∷ row (codes "base") (codes "archive" ∷ codes "driver" ∷ codes "date" ∷ []) (AtDesk Base) (codes "/drivers/{driver}/base/{word}") []
-    ∷ row (codes "key") (codes "archive" ∷ codes "driver" ∷ []) (AtDesk Key) [] []
+    ∷ row (codes "key") (codes "archive" ∷ codes "driver" ∷ []) (AtDesk Key) (codes "/drivers/{driver}/key") []
     ∷ row (codes "spans") (codes "archive" ∷ codes "driver" ∷ codes "month" ∷ []) (AtDesk (MonthReading Spans)) (codes "/drivers/{driver}/spans/{word}") (codes "/me/spans/{word}")
     ∷ row (codes "gaps") (codes "archive" ∷ codes "driver" ∷ codes "month" ∷ []) (AtDesk (MonthReading Gaps)) (codes "/drivers/{driver}/gaps/{word}") (codes "/me/gaps/{word}")
     ∷ row (codes "sheet") (codes "archive" ∷ codes "driver" ∷ codes "month" ∷ []) (AtDesk (MonthReading Sheet)) (codes "/drivers/{driver}/sheet/{word}") (codes "/me/sheet/{word}")

@@ -149,7 +149,7 @@ static COMMANDS: [Command; 31] = [
         about: "Sets a driver's key: tacho key ARCHIVE DRIVER < FILE, where FILE has the key as its only line",
         words: &["archive", "driver"],
         act: AtDesk(Key),
-        office: "",
+        office: "/drivers/{driver}/key",
         driver: "",
     },
     Command {

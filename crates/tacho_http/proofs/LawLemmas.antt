@@ -28,7 +28,7 @@ use Rattle.tacho_message.specs.declared.reply.Status.{Status}
 use Rattle.tacho_message.specs.declared.reply.Status.TheVariants as status
 use Rattle.tacho_http.specs.Laws.{IsFrom, Keeps503, KeepsOthers, OneReply, SameReply}
 use Rattle.tacho_http.specs.Reply.{Reply, done_reply, fault_reply, reply_of_status, reply_to}
-use Rattle.tacho_http.specs.Serve.{ByCaller, ByKeys, ByOwner, ByWhom, RepliesToTask, Reacts, Runs, RepliesOnly, WithBody, WithWish, bad, body_of, headed, large, unavailable}
+use Rattle.tacho_http.specs.Serve.{ByCaller, ByKeys, ByOwner, ByWhom, IsReserved, RepliesToTask, IsReserved, Reacts, Runs, RepliesOnly, WithBody, WithWish, bad, body_of, headed, large, unavailable}
 
 -- ---- 503
 
@@ -46,49 +46,51 @@ module _ (refusals : RefusalsStay) where
   answer_kept t body s (Err f) after does e = refusals t body s f after does
 
   -- or its arguments were
-  wanted_kept : (wanted : Wanted) (body : List ℕ) (s : State) (reply : Reply) (after : State) → RepliesToTask wanted body s reply after → reply.status ≡ status.Unavailable → after ≡ s
-  wanted_kept (Err f) body s reply after h e = h.1
-  wanted_kept (Ok t) body s reply after h e = answer_kept t body s h.0 after h.1 (subst (λ (r : Reply). r.status ≡ status.Unavailable) h.2 e)
+  wanted_kept : (office : List ℕ) (wanted : Wanted) (body : List ℕ) (s : State) (reply : Reply) (after : State) → RepliesToTask office wanted body s reply after → reply.status ≡ status.Unavailable → after ≡ s
+  wanted_kept office (Err f) body s reply after h e = h.1
+  wanted_kept office (Ok t) body s reply after (inl h) e = h.1.1
+  wanted_kept office (Ok t) body s reply after (inr h) e =
+      answer_kept t body s h.1.0 after h.1.1 (subst (λ (r : Reply). r.status ≡ status.Unavailable) h.1.2 e)
 
   -- or its body was incomplete
-  run_kept : (w : Wish) (n : ℕ) (c : Caller) (rest : List ℕ) (s : State) (reply : Reply) (after : State) → Runs w n c rest s reply after → reply.status ≡ status.Unavailable → after ≡ s
-  run_kept w n c rest s reply after (inl h) e = h.1.1
-  run_kept w n c rest s reply after (inr h) e = wanted_kept h.1.0 (take n rest) s reply after h.1.2 e
+  run_kept : (office : List ℕ) (w : Wish) (n : ℕ) (c : Caller) (rest : List ℕ) (s : State) (reply : Reply) (after : State) → Runs office w n c rest s reply after → reply.status ≡ status.Unavailable → after ≡ s
+  run_kept office w n c rest s reply after (inl h) e = h.1.1
+  run_kept office w n c rest s reply after (inr h) e = wanted_kept office h.1.0 (take n rest) s reply after h.1.2 e
 
   -- or its length was refused
-  body_kept : (length : Result ℕ Status) (w : Wish) (c : Caller) (rest : List ℕ) (s : State) (reply : Reply) (after : State) → WithBody length w c rest s reply after
+  body_kept : (office : List ℕ) (length : Result ℕ Status) (w : Wish) (c : Caller) (rest : List ℕ) (s : State) (reply : Reply) (after : State) → WithBody office length w c rest s reply after
       → reply.status ≡ status.Unavailable → after ≡ s
-  body_kept (Err refusal) w c rest s reply after h e = h.1
-  body_kept (Ok n) w c rest s reply after h e = run_kept w n c rest s reply after h e
+  body_kept office (Err refusal) w c rest s reply after h e = h.1
+  body_kept office (Ok n) w c rest s reply after h e = run_kept office w n c rest s reply after h e
 
   -- or its path or its method
-  want_kept : (found : Result Wish Status) (c : Caller) (h : RequestHead) (rest : List ℕ) (s : State) (reply : Reply) (after : State) → WithWish found c h rest s reply after
+  want_kept : (office : List ℕ) (found : Result Wish Status) (c : Caller) (h : RequestHead) (rest : List ℕ) (s : State) (reply : Reply) (after : State) → WithWish office found c h rest s reply after
       → reply.status ≡ status.Unavailable → after ≡ s
-  want_kept (Err refusal) c h rest s reply after does e = does.1
-  want_kept (Ok w) c h rest s reply after does e = body_kept (body_of h w.want) w c rest s reply after does e
+  want_kept office (Err refusal) c h rest s reply after does e = does.1
+  want_kept office (Ok w) c h rest s reply after does e = body_kept office (body_of h w.want) w c rest s reply after does e
 
   -- for any caller
-  caller_kept : (c : Caller) (h : RequestHead) (rest : List ℕ) (s : State) (reply : Reply) (after : State) → ByCaller c h rest s reply after → reply.status ≡ status.Unavailable → after ≡ s
-  caller_kept c h rest s reply after does e = want_kept (wish_of (asker_of c) h.method h.target) c h rest s reply after does e
+  caller_kept : (office : List ℕ) (c : Caller) (h : RequestHead) (rest : List ℕ) (s : State) (reply : Reply) (after : State) → ByCaller office c h rest s reply after → reply.status ≡ status.Unavailable → after ≡ s
+  caller_kept office c h rest s reply after does e = want_kept office (wish_of (asker_of c) h.method h.target) c h rest s reply after does e
 
   -- for any owner of the key
-  owner_kept : (found : Result (Option ℕ) StoreFault) (h : RequestHead) (rest : List ℕ) (s : State) (reply : Reply) (after : State) → ByOwner found h rest s reply after
+  owner_kept : (office : List ℕ) (found : Result (Option ℕ) StoreFault) (h : RequestHead) (rest : List ℕ) (s : State) (reply : Reply) (after : State) → ByOwner office found h rest s reply after
       → reply.status ≡ status.Unavailable → after ≡ s
-  owner_kept (Ok (Some n)) h rest s reply after does e = caller_kept (caller.Driver n) h rest s reply after does e
-  owner_kept (Ok None) h rest s reply after does e = does.1
-  owner_kept (Err f) h rest s reply after does e = does.1
+  owner_kept office (Ok (Some n)) h rest s reply after does e = caller_kept office (caller.Driver n) h rest s reply after does e
+  owner_kept office (Ok None) h rest s reply after does e = does.1
+  owner_kept office (Err f) h rest s reply after does e = does.1
 
   -- for the office's key or another
-  whom_kept : (b : Bool) (key : List ℕ) (h : RequestHead) (rest : List ℕ) (s : State) (reply : Reply) (after : State) → ByWhom b key h rest s reply after
+  whom_kept : (office : List ℕ) (b : Bool) (key : List ℕ) (h : RequestHead) (rest : List ℕ) (s : State) (reply : Reply) (after : State) → ByWhom office b key h rest s reply after
       → reply.status ≡ status.Unavailable → after ≡ s
-  whom_kept true key h rest s reply after does e = caller_kept caller.Office h rest s reply after does e
-  whom_kept false key h rest s reply after does e = owner_kept (owner key s) h rest s reply after does e
+  whom_kept office true key h rest s reply after does e = caller_kept office caller.Office h rest s reply after does e
+  whom_kept office false key h rest s reply after does e = owner_kept office (owner key s) h rest s reply after does e
 
   -- for one key or none
   keys_kept : (office : List ℕ) (key : Option (List ℕ)) (h : RequestHead) (rest : List ℕ) (s : State) (reply : Reply) (after : State) → ByKeys office key h rest s reply after
       → reply.status ≡ status.Unavailable → after ≡ s
   keys_kept office None h rest s reply after does e = does.1
-  keys_kept office (Some key) h rest s reply after does e = whom_kept (bytes_eq key office) key h rest s reply after does e
+  keys_kept office (Some key) h rest s reply after does e = whom_kept office (bytes_eq key office) key h rest s reply after does e
 
   -- for any input
   kept : (office input : List ℕ) (s : State) (reply : Reply) (after : State) → Reacts office input s reply after → reply.status ≡ status.Unavailable → after ≡ s
@@ -153,19 +155,34 @@ task_is_own (want.MonthOfAll text) n driver word t own is = cc
 
 -- a request with a driver's key is that driver's request
 own_request : (office key : List ℕ) (h : RequestHead) (rest : List ℕ) (n : ℕ) (s : State) (reply : Reply) (after : State) → key_of h ≡ Some key → bytes_eq key office ≡ false
-    → owner key s ≡ Ok (Some n) → ByKeys office (key_of h) h rest s reply after → ByCaller (caller.Driver n) h rest s reply after
+    → owner key s ≡ Ok (Some n) → ByKeys office (key_of h) h rest s reply after → ByCaller office (caller.Driver n) h rest s reply after
 own_request office key h rest n s reply after has other own does =
     let x = subst (λ (k : Option (List ℕ)). ByKeys office k h rest s reply after) has does in
-    let y = subst (λ (b : Bool). ByWhom b key h rest s reply after) other x in
-    subst (λ (o : Result (Option ℕ) StoreFault). ByOwner o h rest s reply after) own y
+    let y = subst (λ (b : Bool). ByWhom office b key h rest s reply after) other x in
+    subst (λ (o : Result (Option ℕ) StoreFault). ByOwner office o h rest s reply after) own y
 
 -- and conversely
 his_request : (office key : List ℕ) (h : RequestHead) (rest : List ℕ) (n : ℕ) (s : State) (reply : Reply) (after : State) → key_of h ≡ Some key → bytes_eq key office ≡ false
-    → owner key s ≡ Ok (Some n) → ByCaller (caller.Driver n) h rest s reply after → ByKeys office (key_of h) h rest s reply after
+    → owner key s ≡ Ok (Some n) → ByCaller office (caller.Driver n) h rest s reply after → ByKeys office (key_of h) h rest s reply after
 his_request office key h rest n s reply after has other own does =
     subst (λ (k : Option (List ℕ)). ByKeys office k h rest s reply after) (sym has)
-    (subst (λ (b : Bool). ByWhom b key h rest s reply after) (sym other)
-    (subst (λ (o : Result (Option ℕ) StoreFault). ByOwner o h rest s reply after) (sym own) does))
+    (subst (λ (b : Bool). ByWhom office b key h rest s reply after) (sym other)
+    (subst (λ (o : Result (Option ℕ) StoreFault). ByOwner office o h rest s reply after) (sym own) does))
+
+-- a driver's own task gives nobody a key
+own_unreserved : (office : List ℕ) (n : ℕ) (t : Task) (body : List ℕ) → IsHis n t → IsReserved office t body → ⊥
+own_unreserved office n (task.Key m) body theirs r = theirs
+own_unreserved office n task.Register body theirs r = r
+own_unreserved office n (task.Import c p) body theirs r = r
+own_unreserved office n (task.Enter m) body theirs r = r
+own_unreserved office n (task.Withdraw m number) body theirs r = r
+own_unreserved office n (task.Base m day) body theirs r = r
+own_unreserved office n (task.Reading m text) body theirs r = r
+own_unreserved office n (task.MonthReading m month text) body theirs r = r
+own_unreserved office n (task.MonthOfAll month text) body theirs r = r
+own_unreserved office n (task.File m number) body theirs r = r
+own_unreserved office n task.Drivers body theirs r = r
+own_unreserved office n task.Version body theirs r = r
 
 -- ---- isolation
 
@@ -176,48 +193,49 @@ module _ (own_wants : OwnWants) (same_answers : SameAnswers) (others_stay : Othe
   told_same n s other e r reply after h = (other, (h.0, refl), ap (driver_of n) h.1 ∙ e)
 
   -- the reply to a driver's own task
-  wanted_same : (n : ℕ) (s other : State) → driver_of n s ≡ driver_of n other → (wanted : Wanted) → ((t : Task) → wanted ≡ Ok t → IsHis n t) → (body : List ℕ) (reply : Reply) (after : State)
-      → RepliesToTask wanted body s reply after → (left : State) × RepliesToTask wanted body other reply left × (driver_of n after ≡ driver_of n left)
-  wanted_same n s other e (Err f) theirs body reply after h = told_same n s other e (fault_reply f) reply after h
-  wanted_same n s other e (Ok t) theirs body reply after h =
-      let x = same_answers n t (theirs t refl) body s other e h.0 after h.1 in (x.0, (h.0, x.1, h.2), x.2)
+  wanted_same : (office : List ℕ) (n : ℕ) (s other : State) → driver_of n s ≡ driver_of n other → (wanted : Wanted) → ((t : Task) → wanted ≡ Ok t → IsHis n t) → (body : List ℕ) (reply : Reply) (after : State)
+      → RepliesToTask office wanted body s reply after → (left : State) × RepliesToTask office wanted body other reply left × (driver_of n after ≡ driver_of n left)
+  wanted_same office n s other e (Err f) theirs body reply after h = told_same n s other e (fault_reply f) reply after h
+  wanted_same office n s other e (Ok t) theirs body reply after (inl h) = absurd (own_unreserved office n t body (theirs t refl) h.0)
+  wanted_same office n s other e (Ok t) theirs body reply after (inr h) =
+      let x = same_answers n t (theirs t refl) body s other e h.1.0 after h.1.1 in (x.0, inr (h.0, (h.1.0, x.1, h.1.2)), x.2)
 
   -- with its body
-  run_same : (n : ℕ) (s other : State) → driver_of n s ≡ driver_of n other → (w : Wish) → is_own w.want ≡ true → (k : ℕ) (rest : List ℕ) (reply : Reply) (after : State)
-      → Runs w k (caller.Driver n) rest s reply after → (left : State) × Runs w k (caller.Driver n) rest other reply left × (driver_of n after ≡ driver_of n left)
-  run_same n s other e w own k rest reply after (inl h) =
+  run_same : (office : List ℕ) (n : ℕ) (s other : State) → driver_of n s ≡ driver_of n other → (w : Wish) → is_own w.want ≡ true → (k : ℕ) (rest : List ℕ) (reply : Reply) (after : State)
+      → Runs office w k (caller.Driver n) rest s reply after → (left : State) × Runs office w k (caller.Driver n) rest other reply left × (driver_of n after ≡ driver_of n left)
+  run_same office n s other e w own k rest reply after (inl h) =
       let x = told_same n s other e (reply_of_status status.BadRequest) reply after h.1 in (x.0, inl (h.0, x.1), x.2)
-  run_same n s other e w own k rest reply after (inr h) =
+  run_same office n s other e w own k rest reply after (inr h) =
       let wanted = h.1.0 in
-      let x = wanted_same n s other e wanted (λ t is. task_is_own w.want n w.driver w.word t own (subst (IsTask w.want (caller.Driver n) w.driver w.word) is h.1.1)) (take k rest) reply after h.1.2 in
+      let x = wanted_same office n s other e wanted (λ t is. task_is_own w.want n w.driver w.word t own (subst (IsTask w.want (caller.Driver n) w.driver w.word) is h.1.1)) (take k rest) reply after h.1.2 in
       (x.0, inr (h.0, (wanted, h.1.1, x.1)), x.2)
 
   -- with the length of its body
-  body_same : (n : ℕ) (s other : State) → driver_of n s ≡ driver_of n other → (w : Wish) → is_own w.want ≡ true → (length : Result ℕ Status) (rest : List ℕ) (reply : Reply) (after : State)
-      → WithBody length w (caller.Driver n) rest s reply after
-      → (left : State) × WithBody length w (caller.Driver n) rest other reply left × (driver_of n after ≡ driver_of n left)
-  body_same n s other e w own (Err refusal) rest reply after h = told_same n s other e (reply_of_status refusal) reply after h
-  body_same n s other e w own (Ok k) rest reply after h = run_same n s other e w own k rest reply after h
+  body_same : (office : List ℕ) (n : ℕ) (s other : State) → driver_of n s ≡ driver_of n other → (w : Wish) → is_own w.want ≡ true → (length : Result ℕ Status) (rest : List ℕ) (reply : Reply) (after : State)
+      → WithBody office length w (caller.Driver n) rest s reply after
+      → (left : State) × WithBody office length w (caller.Driver n) rest other reply left × (driver_of n after ≡ driver_of n left)
+  body_same office n s other e w own (Err refusal) rest reply after h = told_same n s other e (reply_of_status refusal) reply after h
+  body_same office n s other e w own (Ok k) rest reply after h = run_same office n s other e w own k rest reply after h
 
   -- with what it asks for
-  want_same : (n : ℕ) (s other : State) → driver_of n s ≡ driver_of n other → (found : Result Wish Status) → ((w : Wish) → found ≡ Ok w → is_own w.want ≡ true)
-      → (h : RequestHead) (rest : List ℕ) (reply : Reply) (after : State) → WithWish found (caller.Driver n) h rest s reply after
-      → (left : State) × WithWish found (caller.Driver n) h rest other reply left × (driver_of n after ≡ driver_of n left)
-  want_same n s other e (Err refusal) own h rest reply after does = told_same n s other e (reply_of_status refusal) reply after does
-  want_same n s other e (Ok w) own h rest reply after does =
-      body_same n s other e w (own w refl) (body_of h w.want) rest reply after does
+  want_same : (office : List ℕ) (n : ℕ) (s other : State) → driver_of n s ≡ driver_of n other → (found : Result Wish Status) → ((w : Wish) → found ≡ Ok w → is_own w.want ≡ true)
+      → (h : RequestHead) (rest : List ℕ) (reply : Reply) (after : State) → WithWish office found (caller.Driver n) h rest s reply after
+      → (left : State) × WithWish office found (caller.Driver n) h rest other reply left × (driver_of n after ≡ driver_of n left)
+  want_same office n s other e (Err refusal) own h rest reply after does = told_same n s other e (reply_of_status refusal) reply after does
+  want_same office n s other e (Ok w) own h rest reply after does =
+      body_same office n s other e w (own w refl) (body_of h w.want) rest reply after does
 
   -- with its key
-  caller_same : (n : ℕ) (s other : State) → driver_of n s ≡ driver_of n other → (h : RequestHead) (rest : List ℕ) (reply : Reply) (after : State)
-      → ByCaller (caller.Driver n) h rest s reply after → (left : State) × ByCaller (caller.Driver n) h rest other reply left × (driver_of n after ≡ driver_of n left)
-  caller_same n s other e h rest reply after does =
-      want_same n s other e (wish_of asker.Driver h.method h.target) (λ w is. own_wants h.method h.target w is) h rest reply after does
+  caller_same : (office : List ℕ) (n : ℕ) (s other : State) → driver_of n s ≡ driver_of n other → (h : RequestHead) (rest : List ℕ) (reply : Reply) (after : State)
+      → ByCaller office (caller.Driver n) h rest s reply after → (left : State) × ByCaller office (caller.Driver n) h rest other reply left × (driver_of n after ≡ driver_of n left)
+  caller_same office n s other e h rest reply after does =
+      want_same office n s other e (wish_of asker.Driver h.method h.target) (λ w is. own_wants h.method h.target w is) h rest reply after does
 
   -- with its head
   same_of : (office input : List ℕ) (n : ℕ) (s other : State) → IsFrom office input n s → IsFrom office input n other → driver_of n s ≡ driver_of n other
       → (reply : Reply) (after : State) → Reacts office input s reply after → (left : State) × Reacts office input other reply left × (driver_of n after ≡ driver_of n left)
   same_of office input n s other a b e _ _ (headed h rest reply after begins does) =
-      let x = caller_same n s other e h rest reply after (own_request office a.key h rest n s reply after (a.has h rest begins) a.other a.own does) in
+      let x = caller_same office n s other e h rest reply after (own_request office a.key h rest n s reply after (a.has h rest begins) a.other a.own does) in
       (x.0, headed h rest reply x.0 begins (his_request office b.key h rest n other reply x.0 (b.has h rest begins) b.other b.own x.1), x.2)
   same_of office input n s other a b e _ _ (bad r) = (other, bad r, e)
   same_of office input n s other a b e _ _ (large r) = (other, large r, e)
@@ -230,34 +248,35 @@ module _ (own_wants : OwnWants) (same_answers : SameAnswers) (others_stay : Othe
   -- ---- no other rows
 
   -- a driver's own task changes no other driver's rows
-  run_others : (n m : ℕ) → m ≢ n → (s : State) (w : Wish) → is_own w.want ≡ true → (k : ℕ) (rest : List ℕ) (reply : Reply) (after : State)
-      → Runs w k (caller.Driver n) rest s reply after → driver_of m after ≡ driver_of m s
-  run_others n m differ s w own k rest reply after (inl h) = ap (driver_of m) h.1.1
-  run_others n m differ s w own k rest reply after (inr h) =
+  run_others : (office : List ℕ) (n m : ℕ) → m ≢ n → (s : State) (w : Wish) → is_own w.want ≡ true → (k : ℕ) (rest : List ℕ) (reply : Reply) (after : State)
+      → Runs office w k (caller.Driver n) rest s reply after → driver_of m after ≡ driver_of m s
+  run_others office n m differ s w own k rest reply after (inl h) = ap (driver_of m) h.1.1
+  run_others office n m differ s w own k rest reply after (inr h) =
       by_wanted h.1.0 (λ t is. task_is_own w.want n w.driver w.word t own (subst (IsTask w.want (caller.Driver n) w.driver w.word) is h.1.1)) h.1.2
     where
-      by_wanted : (wanted : Wanted) → ((t : Task) → wanted ≡ Ok t → IsHis n t) → RepliesToTask wanted (take k rest) s reply after → driver_of m after ≡ driver_of m s
+      by_wanted : (wanted : Wanted) → ((t : Task) → wanted ≡ Ok t → IsHis n t) → RepliesToTask office wanted (take k rest) s reply after → driver_of m after ≡ driver_of m s
       by_wanted (Err f) theirs h = ap (driver_of m) h.1
-      by_wanted (Ok t) theirs h = others_stay n t (theirs t refl) (take k rest) s h.0 after h.1 m differ
+      by_wanted (Ok t) theirs (inl h) = absurd (own_unreserved office n t (take k rest) (theirs t refl) h.0)
+      by_wanted (Ok t) theirs (inr h) = others_stay n t (theirs t refl) (take k rest) s h.1.0 after h.1.1 m differ
 
   -- for any length of its body
-  body_others : (n m : ℕ) → m ≢ n → (s : State) (w : Wish) → is_own w.want ≡ true → (length : Result ℕ Status) (rest : List ℕ) (reply : Reply) (after : State)
-      → WithBody length w (caller.Driver n) rest s reply after → driver_of m after ≡ driver_of m s
-  body_others n m differ s w own (Err refusal) rest reply after h = ap (driver_of m) h.1
-  body_others n m differ s w own (Ok k) rest reply after h = run_others n m differ s w own k rest reply after h
+  body_others : (office : List ℕ) (n m : ℕ) → m ≢ n → (s : State) (w : Wish) → is_own w.want ≡ true → (length : Result ℕ Status) (rest : List ℕ) (reply : Reply) (after : State)
+      → WithBody office length w (caller.Driver n) rest s reply after → driver_of m after ≡ driver_of m s
+  body_others office n m differ s w own (Err refusal) rest reply after h = ap (driver_of m) h.1
+  body_others office n m differ s w own (Ok k) rest reply after h = run_others office n m differ s w own k rest reply after h
 
   -- for anything that it asks for
-  want_others : (n m : ℕ) → m ≢ n → (s : State) (found : Result Wish Status) → ((w : Wish) → found ≡ Ok w → is_own w.want ≡ true) → (h : RequestHead) (rest : List ℕ) (reply : Reply) (after : State)
-      → WithWish found (caller.Driver n) h rest s reply after → driver_of m after ≡ driver_of m s
-  want_others n m differ s (Err refusal) own h rest reply after does = ap (driver_of m) does.1
-  want_others n m differ s (Ok w) own h rest reply after does =
-      body_others n m differ s w (own w refl) (body_of h w.want) rest reply after does
+  want_others : (office : List ℕ) (n m : ℕ) → m ≢ n → (s : State) (found : Result Wish Status) → ((w : Wish) → found ≡ Ok w → is_own w.want ≡ true) → (h : RequestHead) (rest : List ℕ) (reply : Reply) (after : State)
+      → WithWish office found (caller.Driver n) h rest s reply after → driver_of m after ≡ driver_of m s
+  want_others office n m differ s (Err refusal) own h rest reply after does = ap (driver_of m) does.1
+  want_others office n m differ s (Ok w) own h rest reply after does =
+      body_others office n m differ s w (own w refl) (body_of h w.want) rest reply after does
 
   -- for any head
   others_of : (office input : List ℕ) (n : ℕ) (s : State) → IsFrom office input n s → (reply : Reply) (after : State) → Reacts office input s reply after
       → (m : ℕ) → m ≢ n → driver_of m after ≡ driver_of m s
   others_of office input n s a _ _ (headed h rest reply after begins does) m differ =
-      want_others n m differ s (wish_of asker.Driver h.method h.target) (λ w is. own_wants h.method h.target w is) h rest reply after
+      want_others office n m differ s (wish_of asker.Driver h.method h.target) (λ w is. own_wants h.method h.target w is) h rest reply after
       (own_request office a.key h rest n s reply after (a.has h rest begins) a.other a.own does)
   others_of office input n s a _ _ (bad r) m differ = refl
   others_of office input n s a _ _ (large r) m differ = refl
@@ -274,45 +293,48 @@ module _ (own_wants : OwnWants) (same_answers : SameAnswers) (others_stay : Othe
   told_once s r p q after left h k = (h.0 ∙ sym k.0, h.1 ∙ sym k.1)
 
   -- the reply to a driver's own task is the only one
-  wanted_once : (n : ℕ) (s : State) (wanted : Wanted) → ((t : Task) → wanted ≡ Ok t → IsHis n t) → (body : List ℕ) (p q : Reply) (after left : State)
-      → RepliesToTask wanted body s p after → RepliesToTask wanted body s q left → (p ≡ q) × (after ≡ left)
-  wanted_once n s (Err f) theirs body p q after left h k = told_once s (fault_reply f) p q after left h k
-  wanted_once n s (Ok t) theirs body p q after left h k =
-      let x = one_answer n t (theirs t refl) body s h.0 k.0 after left h.1 k.1 in (h.2 ∙ (ap (reply_to (want_of t)) x.0 ∙ sym k.2), x.1)
+  wanted_once : (office : List ℕ) (n : ℕ) (s : State) (wanted : Wanted) → ((t : Task) → wanted ≡ Ok t → IsHis n t) → (body : List ℕ) (p q : Reply) (after left : State)
+      → RepliesToTask office wanted body s p after → RepliesToTask office wanted body s q left → (p ≡ q) × (after ≡ left)
+  wanted_once office n s (Err f) theirs body p q after left h k = told_once s (fault_reply f) p q after left h k
+  wanted_once office n s (Ok t) theirs body p q after left (inl h) k = absurd (own_unreserved office n t body (theirs t refl) h.0)
+  wanted_once office n s (Ok t) theirs body p q after left (inr h) (inl k) = absurd (own_unreserved office n t body (theirs t refl) k.0)
+  wanted_once office n s (Ok t) theirs body p q after left (inr h) (inr k) =
+      let x = one_answer n t (theirs t refl) body s h.1.0 k.1.0 after left h.1.1 k.1.1 in
+      (h.1.2 ∙ (ap (reply_to (want_of t)) x.0 ∙ sym k.1.2), x.1)
 
   -- with its body
-  run_once : (n : ℕ) (s : State) (w : Wish) → is_own w.want ≡ true → (k : ℕ) (rest : List ℕ) (p q : Reply) (after left : State)
-      → Runs w k (caller.Driver n) rest s p after → Runs w k (caller.Driver n) rest s q left → (p ≡ q) × (after ≡ left)
-  run_once n s w own k rest p q after left (inl h) (inl g) = told_once s (reply_of_status status.BadRequest) p q after left h.1 g.1
-  run_once n s w own k rest p q after left (inl h) (inr g) = (let x = h.0 in let y = g.0 in absurd (omega arith))
-  run_once n s w own k rest p q after left (inr h) (inl g) = (let x = h.0 in let y = g.0 in absurd (omega arith))
-  run_once n s w own k rest p q after left (inr h) (inr g) =
+  run_once : (office : List ℕ) (n : ℕ) (s : State) (w : Wish) → is_own w.want ≡ true → (k : ℕ) (rest : List ℕ) (p q : Reply) (after left : State)
+      → Runs office w k (caller.Driver n) rest s p after → Runs office w k (caller.Driver n) rest s q left → (p ≡ q) × (after ≡ left)
+  run_once office n s w own k rest p q after left (inl h) (inl g) = told_once s (reply_of_status status.BadRequest) p q after left h.1 g.1
+  run_once office n s w own k rest p q after left (inl h) (inr g) = (let x = h.0 in let y = g.0 in absurd (omega arith))
+  run_once office n s w own k rest p q after left (inr h) (inl g) = (let x = h.0 in let y = g.0 in absurd (omega arith))
+  run_once office n s w own k rest p q after left (inr h) (inr g) =
       let same = task_once w.want (caller.Driver n) w.driver w.word h.1.0 g.1.0 h.1.1 g.1.1 in
-      wanted_once n s h.1.0 (λ t is. task_is_own w.want n w.driver w.word t own (subst (IsTask w.want (caller.Driver n) w.driver w.word) is h.1.1)) (take k rest) p q after left h.1.2
-      (subst (λ (wanted : Wanted). RepliesToTask wanted (take k rest) s q left) (sym same) g.1.2)
+      wanted_once office n s h.1.0 (λ t is. task_is_own w.want n w.driver w.word t own (subst (IsTask w.want (caller.Driver n) w.driver w.word) is h.1.1)) (take k rest) p q after left h.1.2
+      (subst (λ (wanted : Wanted). RepliesToTask office wanted (take k rest) s q left) (sym same) g.1.2)
 
   -- with the length of its body
-  body_once : (n : ℕ) (s : State) (w : Wish) → is_own w.want ≡ true → (length : Result ℕ Status) (rest : List ℕ) (p q : Reply) (after left : State)
-      → WithBody length w (caller.Driver n) rest s p after → WithBody length w (caller.Driver n) rest s q left → (p ≡ q) × (after ≡ left)
-  body_once n s w own (Err refusal) rest p q after left h k = told_once s (reply_of_status refusal) p q after left h k
-  body_once n s w own (Ok size) rest p q after left h k = run_once n s w own size rest p q after left h k
+  body_once : (office : List ℕ) (n : ℕ) (s : State) (w : Wish) → is_own w.want ≡ true → (length : Result ℕ Status) (rest : List ℕ) (p q : Reply) (after left : State)
+      → WithBody office length w (caller.Driver n) rest s p after → WithBody office length w (caller.Driver n) rest s q left → (p ≡ q) × (after ≡ left)
+  body_once office n s w own (Err refusal) rest p q after left h k = told_once s (reply_of_status refusal) p q after left h k
+  body_once office n s w own (Ok size) rest p q after left h k = run_once office n s w own size rest p q after left h k
 
   -- with what it asks for
-  want_once : (n : ℕ) (s : State) (found : Result Wish Status) → ((w : Wish) → found ≡ Ok w → is_own w.want ≡ true) → (h : RequestHead) (rest : List ℕ) (p q : Reply) (after left : State)
-      → WithWish found (caller.Driver n) h rest s p after → WithWish found (caller.Driver n) h rest s q left → (p ≡ q) × (after ≡ left)
-  want_once n s (Err refusal) own h rest p q after left x y = told_once s (reply_of_status refusal) p q after left x y
-  want_once n s (Ok w) own h rest p q after left x y =
-      body_once n s w (own w refl) (body_of h w.want) rest p q after left x y
+  want_once : (office : List ℕ) (n : ℕ) (s : State) (found : Result Wish Status) → ((w : Wish) → found ≡ Ok w → is_own w.want ≡ true) → (h : RequestHead) (rest : List ℕ) (p q : Reply) (after left : State)
+      → WithWish office found (caller.Driver n) h rest s p after → WithWish office found (caller.Driver n) h rest s q left → (p ≡ q) × (after ≡ left)
+  want_once office n s (Err refusal) own h rest p q after left x y = told_once s (reply_of_status refusal) p q after left x y
+  want_once office n s (Ok w) own h rest p q after left x y =
+      body_once office n s w (own w refl) (body_of h w.want) rest p q after left x y
 
   -- with its head, which is the only one
   one_of : (office input : List ℕ) (n : ℕ) (s : State) → IsFrom office input n s → (p : Reply) (after : State) → Reacts office input s p after → (q : Reply) (left : State) → Reacts office input s q left
       → p.status ≢ status.Unavailable → q.status ≢ status.Unavailable → (p ≡ q) × (after ≡ left)
   one_of office input n s a _ _ (headed h rest p after begins x) _ _ (headed k more q left starts y) f g =
       let same = request_unique input h k rest more begins.reads starts.reads in
-      let z = subst (λ (rest : List ℕ). ByCaller (caller.Driver n) h rest s q left) (sym same.1)
-      (subst (λ (head : RequestHead). ByCaller (caller.Driver n) head more s q left) (sym same.0)
+      let z = subst (λ (rest : List ℕ). ByCaller office (caller.Driver n) h rest s q left) (sym same.1)
+      (subst (λ (head : RequestHead). ByCaller office (caller.Driver n) head more s q left) (sym same.0)
       (own_request office a.key k more n s q left (a.has k more starts) a.other a.own y)) in
-      want_once n s (wish_of asker.Driver h.method h.target) (λ w is. own_wants h.method h.target w is) h rest p q after left
+      want_once office n s (wish_of asker.Driver h.method h.target) (λ w is. own_wants h.method h.target w is) h rest p q after left
       (own_request office a.key h rest n s p after (a.has h rest begins) a.other a.own x) z
   one_of office input n s a _ _ (headed h rest p after begins x) _ _ (bad r) f g = absurd (r.0 h rest begins)
   one_of office input n s a _ _ (headed h rest p after begins x) _ _ (large r) f g = absurd (r.0 h rest begins)

@@ -1,5 +1,5 @@
 -- The parts of a path, by its first slash and by its last.
-use Rattle.std.proofs.Common.{◌≡◌, ◌==◌, ◌<◌, ◌≤◌, ◌+◌, ◌∷◌, ℕ, Bool, true, false, List, [], Option, Some, None, length, take, drop, refl, sym, ap, arith, suc, zero, if◌then◌else◌}
+use Rattle.std.proofs.Common.{◌≡◌, ◌==◌, ◌≤◌, ◌+◌, ◌∷◌, ℕ, Bool, true, false, List, [], length, take, drop, refl, ap, arith, suc, zero, if◌then◌else◌}
 use Rattle.memchr.specs.Find.{NoneAfter, NoneBefore, Nowhere, Passes, is_byte}
 use Rattle.tacho_http.specs.Routes.{before_slash, last_from}
 

@@ -16,7 +16,7 @@ use Rattle.tacho_card.specs.declared.fault.CardFault.TheVariants as card
 use Rattle.tacho_sheet.specs.declared.fault.Fault.TheVariants as told
 use Rattle.tacho_sheet.specs.declared.fault.SheetFault.TheVariants as sheet
 use Rattle.tacho_desk.specs.Doing.{ChangesNothing, Done, IsDurable, Serves, CrashMayLeave as TaskCrashMayLeave}
-use Rattle.tacho_desk.specs.Fault.{IsFailure}
+use Rattle.tacho_desk.specs.Fault.{IsFailure, fault_of_store}
 use Rattle.tacho_desk.specs.Tasks.{Does, want_of}
 use Rattle.tacho_desk.specs.Told.{Added, Answer, File, Line, Long, Told}
 use Rattle.tacho_desk.specs.Words.{IsTask}
@@ -40,7 +40,7 @@ use Rattle.tacho_http.specs.Routes.{Named, named_in, routes}
 use Rattle.tacho_http.specs.declared.places.Asker.{Asker}
 use Rattle.tacho_desk.specs.Wants.{takes_input}
 use Rattle.tacho_desk.specs.declared.want.Want.{Want}
-use Rattle.tacho_http.specs.Serve.{ByCaller, ByKey, ByKeys, ByOwner, ByWhom, Reaction, Reacts, Runs, WithBody, WithWish, body_of, headed, unavailable as unavailable_reply}
+use Rattle.tacho_http.specs.Serve.{ByCaller, ByKey, ByKeys, ByOwner, ByWhom, IsReserved, Reaction, Reacts, Runs, WithBody, WithWish, body_of, headed, unavailable as unavailable_reply}
 use Rattle.tacho_http.specs.declared.exchange.IoFault.TheVariants as io
 use Rattle.tacho_http.specs.declared.response.Response.{Response}
 
@@ -400,85 +400,105 @@ module _ {K : Type 0} (stands : K → State → Type 0) (is_clean is_live : K �
   -- ---- bodies
 
   -- the input ended before the end of the body
-  pub cut_short : (keeper : K) (command : Bool) (unread : Option (List ℕ)) (response : Response) (w : Wish) (n : ℕ) (c : Caller) (after_head : List ℕ)
+  pub cut_short : (office : List ℕ) (keeper : K) (command : Bool) (unread : Option (List ℕ)) (response : Response) (w : Wish) (n : ℕ) (c : Caller) (after_head : List ℕ)
       → reply_of response ≡ reply_of_status status.BadRequest → IsCutShort after_head unread n
       → Responds stands is_clean is_live leaves is_same keeper keeper command unread (Ok response)
-      (λ left s. Runs w n c (after_head ++ left) s)
-  cut_short keeper command unread response w n c after_head is cut =
-      nothing_of keeper command unread cut.left cut.told response (λ left s. Runs w n c (after_head ++ left) s)
+      (λ left s. Runs office w n c (after_head ++ left) s)
+  cut_short office keeper command unread response w n c after_head is cut =
+      nothing_of keeper command unread cut.left cut.told response (λ left s. Runs office w n c (after_head ++ left) s)
       (ap (λ (r : Reply). is_done r.status) is) (λ s. inl (cut.short, (is, refl)))
 
   -- an argument in the path is bad
-  pub wrong_word : (keeper : K) (command : Bool) (unread : Option (List ℕ)) (response : Response) (w : Wish) (n : ℕ) (c : Caller) (after_head body : List ℕ) (f : Fault)
+  pub wrong_word : (office : List ℕ) (keeper : K) (command : Bool) (unread : Option (List ℕ)) (response : Response) (w : Wish) (n : ℕ) (c : Caller) (after_head body : List ℕ) (f : Fault)
       → reply_of response ≡ fault_reply f → IsBody after_head unread n body → IsTask w.want c w.driver w.word (Err f)
       → Responds stands is_clean is_live leaves is_same keeper keeper command unread (Ok response)
-      (λ left s. Runs w n c (after_head ++ left) s)
-  wrong_word keeper command unread response w n c after_head body f is read wrong =
-      nothing_of keeper command unread read.left read.told response (λ left s. Runs w n c (after_head ++ left) s)
+      (λ left s. Runs office w n c (after_head ++ left) s)
+  wrong_word office keeper command unread response w n c after_head body f is read wrong =
+      nothing_of keeper command unread read.left read.told response (λ left s. Runs office w n c (after_head ++ left) s)
       (ap (λ (r : Reply). is_done r.status) is ∙ refused f) (λ s. inr (read.long, (Err f, wrong, (is, refl))))
 
+  -- the office's key can't become a driver's
+  pub reserved_key : (office : List ℕ) (keeper : K) (command : Bool) (unread : Option (List ℕ)) (response : Response) (w : Wish) (n : ℕ) (c : Caller)
+      (after_head body : List ℕ) (t : Task) → reply_of response ≡ fault_reply (fault_of_store store.KeyTaken) → IsBody after_head unread n body
+      → IsTask w.want c w.driver w.word (Ok t) → IsReserved office t body
+      → Responds stands is_clean is_live leaves is_same keeper keeper command unread (Ok response) (λ left s. Runs office w n c (after_head ++ left) s)
+  reserved_key office keeper command unread response w n c after_head body t is read task taken =
+      nothing_of keeper command unread read.left read.told response (λ left s. Runs office w n c (after_head ++ left) s)
+      (ap (λ (r : Reply). is_done r.status) is ∙ refl)
+      (λ s. inr (read.long, (Ok t, task, inl (subst (IsReserved office t) read.bytes taken, (is, refl)))))
+
   -- the task was carried out
-  pub carried_out : (old new : K) (command : Bool) (unread : Option (List ℕ)) (response : Response) (answer : Answer) (w : Wish) (n : ℕ) (c : Caller) (after_head body : List ℕ) (t : Task)
-      → reply_of response ≡ reply_to (want_of t) answer → IsBody after_head unread n body → IsTask w.want c w.driver w.word (Ok t)
+  pub carried_out : (office : List ℕ) (old new : K) (command : Bool) (unread : Option (List ℕ)) (response : Response) (answer : Answer) (w : Wish) (n : ℕ) (c : Caller) (after_head body : List ℕ) (t : Task)
+      → reply_of response ≡ reply_to (want_of t) answer → IsBody after_head unread n body → IsTask w.want c w.driver w.word (Ok t) → ¬ IsReserved office t body
       → Serves stands is_clean is_live leaves is_same old new command answer (Does t body)
-      → Responds stands is_clean is_live leaves is_same old new command unread (Ok response) (λ left s. Runs w n c (after_head ++ left) s)
-  carried_out old new command unread response answer w n c after_head body t is read task serves = record {
+      → Responds stands is_clean is_live leaves is_same old new command unread (Ok response) (λ left s. Runs office w n c (after_head ++ left) s)
+  carried_out office old new command unread response answer w n c after_head body t is read task free serves = record {
     left = read.left;
     told = read.told;
     clean = serves.clean;
     live = λ clean done. is_live_after (want_of t) answer (serves.live clean) (subst (λ (r : Reply). is_done r.status ≡ true) is done);
     given = λ clean s st.
-        subst (HasReplied (stands new) (leaves new) command s (Runs w n c (after_head ++ read.left) s)) (sym is)
-        (replied (stands new) (leaves new) s t body (Runs w n c (after_head ++ read.left) s) (done_for s) command answer (serves.done clean s st)
+        subst (HasReplied (stands new) (leaves new) command s (Runs office w n c (after_head ++ read.left) s)) (sym is)
+        (replied (stands new) (leaves new) s t body (Runs office w n c (after_head ++ read.left) s) (done_for s) command answer (serves.done clean s st)
         (λ is. serves.kept is clean s st));
     same = λ undone. serves.same (changes_nothing command (want_of t) answer response.status (ap (λ (r : Reply). r.status) is) undone);
     crash = λ clean s past st l.
-        subst (CrashMayLeaveReply (leaves new) past (Runs w n c (after_head ++ read.left) s)) (sym is)
-        (stopped (stands new) (leaves new) s t body (Runs w n c (after_head ++ read.left) s) (done_for s) past answer (serves.crash clean s past st l));
+        subst (CrashMayLeaveReply (leaves new) past (Runs office w n c (after_head ++ read.left) s)) (sym is)
+        (stopped (stands new) (leaves new) s t body (Runs office w n c (after_head ++ read.left) s) (done_for s) past answer (serves.crash clean s past st l));
   }
     where
-      done_for : (s : State) (answer : Answer) (after : State) → Does t body s answer after → Runs w n c (after_head ++ read.left) s (reply_to (want_of t) answer) after
+      done_for : (s : State) (answer : Answer) (after : State) → Does t body s answer after → Runs office w n c (after_head ++ read.left) s (reply_to (want_of t) answer) after
       done_for s answer after does =
-          inr (read.long, (Ok t, task, (answer, subst (λ (bytes : List ℕ). Does t bytes s answer after) read.bytes does, refl)))
+          inr (
+            read.long,
+            (
+              Ok t,
+              task,
+              inr (
+                subst (λ (bytes : List ℕ). ¬ IsReserved office t bytes) read.bytes free,
+                (answer, subst (λ (bytes : List ℕ). Does t bytes s answer after) read.bytes does, refl),
+              ),
+            ),
+          )
 
   -- ---- who asks, and what for
 
   -- what is asked for was done
-  pub by_wish : (old new : K) (command : Bool) (unread : Option (List ℕ)) (result : Result Response Failed) (c : Caller) (h : RequestHead) (after_head : List ℕ) (w : Wish) (n : ℕ)
+  pub by_wish : (office : List ℕ) (old new : K) (command : Bool) (unread : Option (List ℕ)) (result : Result Response Failed) (c : Caller) (h : RequestHead) (after_head : List ℕ) (w : Wish) (n : ℕ)
       → (is_post (method_of h.method) ≡ true → command ≡ true) → (is_post (method_of h.method) ≡ false → command ≡ false)
       → wish_of (asker_of c) h.method h.target ≡ Ok w → body_of h w.want ≡ Ok n
-      → Responds stands is_clean is_live leaves is_same old new command unread result (λ left s. Runs w n c (after_head ++ left) s)
-      → Responds stands is_clean is_live leaves is_same old new (is_post (method_of h.method)) unread result (λ left s. ByCaller c h (after_head ++ left) s)
-  by_wish old new command unread result c h after_head w n posted unposted wanted long r =
-      responds_as old new command (is_post (method_of h.method)) unread result (λ left s. Runs w n c (after_head ++ left) s) (λ left s. ByCaller c h (after_head ++ left) s) posted unposted
+      → Responds stands is_clean is_live leaves is_same old new command unread result (λ left s. Runs office w n c (after_head ++ left) s)
+      → Responds stands is_clean is_live leaves is_same old new (is_post (method_of h.method)) unread result (λ left s. ByCaller office c h (after_head ++ left) s)
+  by_wish office old new command unread result c h after_head w n posted unposted wanted long r =
+      responds_as old new command (is_post (method_of h.method)) unread result (λ left s. Runs office w n c (after_head ++ left) s) (λ left s. ByCaller office c h (after_head ++ left) s) posted unposted
       (λ left s reply after does.
-      subst (λ (x : Result Wish Status). WithWish x c h (after_head ++ left) s reply after) (sym wanted)
-      (subst (λ (x : Result ℕ Status). WithBody x w c (after_head ++ left) s reply after) (sym long) does)) r
+      subst (λ (x : Result Wish Status). WithWish office x c h (after_head ++ left) s reply after) (sym wanted)
+      (subst (λ (x : Result ℕ Status). WithBody office x w c (after_head ++ left) s reply after) (sym long) does)) r
 
   -- the path names no place, or the place doesn't offer this method, or it is for the other asker
-  pub no_wish : (keeper : K) (unread : Option (List ℕ)) (response : Response) (c : Caller) (h : RequestHead) (after_head : List ℕ) (refusal : Status)
+  pub no_wish : (office : List ℕ) (keeper : K) (unread : Option (List ℕ)) (response : Response) (c : Caller) (h : RequestHead) (after_head : List ℕ) (refusal : Status)
       → reply_of response ≡ reply_of_status refusal → is_done refusal ≡ false → wish_of (asker_of c) h.method h.target ≡ Err refusal
-      → Responds stands is_clean is_live leaves is_same keeper keeper (is_post (method_of h.method)) unread (Ok response) (λ left s. ByCaller c h (after_head ++ left) s)
-  no_wish keeper unread response c h after_head refusal is none refused =
-      nothing keeper (is_post (method_of h.method)) unread response (λ left s. ByCaller c h (after_head ++ left) s) (ap (λ (r : Reply). is_done r.status) is ∙ none)
-      (λ left s. subst (λ (x : Result Wish Status). WithWish x c h (after_head ++ left) s (reply_of response) s) (sym refused) (is, refl))
+      → Responds stands is_clean is_live leaves is_same keeper keeper (is_post (method_of h.method)) unread (Ok response) (λ left s. ByCaller office c h (after_head ++ left) s)
+  no_wish office keeper unread response c h after_head refusal is none refused =
+      nothing keeper (is_post (method_of h.method)) unread response (λ left s. ByCaller office c h (after_head ++ left) s) (ap (λ (r : Reply). is_done r.status) is ∙ none)
+      (λ left s. subst (λ (x : Result Wish Status). WithWish office x c h (after_head ++ left) s (reply_of response) s) (sym refused) (is, refl))
 
   -- the length of the body is missing, bad, or too large
-  pub no_length : (keeper : K) (unread : Option (List ℕ)) (response : Response) (c : Caller) (h : RequestHead) (after_head : List ℕ) (w : Wish) (refusal : Status)
+  pub no_length : (office : List ℕ) (keeper : K) (unread : Option (List ℕ)) (response : Response) (c : Caller) (h : RequestHead) (after_head : List ℕ) (w : Wish) (refusal : Status)
       → reply_of response ≡ reply_of_status refusal → is_done refusal ≡ false → wish_of (asker_of c) h.method h.target ≡ Ok w → body_of h w.want ≡ Err refusal
-      → Responds stands is_clean is_live leaves is_same keeper keeper (is_post (method_of h.method)) unread (Ok response) (λ left s. ByCaller c h (after_head ++ left) s)
-  no_length keeper unread response c h after_head w refusal is none wanted refused =
-      nothing keeper (is_post (method_of h.method)) unread response (λ left s. ByCaller c h (after_head ++ left) s) (ap (λ (r : Reply). is_done r.status) is ∙ none)
-      (λ left s. subst (λ (x : Result Wish Status). WithWish x c h (after_head ++ left) s (reply_of response) s) (sym wanted)
-      (subst (λ (x : Result ℕ Status). WithBody x w c (after_head ++ left) s (reply_of response) s) (sym refused) (is, refl)))
+      → Responds stands is_clean is_live leaves is_same keeper keeper (is_post (method_of h.method)) unread (Ok response) (λ left s. ByCaller office c h (after_head ++ left) s)
+  no_length office keeper unread response c h after_head w refusal is none wanted refused =
+      nothing keeper (is_post (method_of h.method)) unread response (λ left s. ByCaller office c h (after_head ++ left) s) (ap (λ (r : Reply). is_done r.status) is ∙ none)
+      (λ left s. subst (λ (x : Result Wish Status). WithWish office x c h (after_head ++ left) s (reply_of response) s) (sym wanted)
+      (subst (λ (x : Result ℕ Status). WithBody office x w c (after_head ++ left) s (reply_of response) s) (sym refused) (is, refl)))
 
   -- the office asks
   pub by_office : (old new : K) (command : Bool) (unread : Option (List ℕ)) (result : Result Response Failed) (office key : List ℕ) (h : RequestHead) (after_head : List ℕ) → bytes_eq key office ≡ true
-      → Responds stands is_clean is_live leaves is_same old new command unread result (λ left s. ByCaller caller.Office h (after_head ++ left) s)
+      → Responds stands is_clean is_live leaves is_same old new command unread result (λ left s. ByCaller office caller.Office h (after_head ++ left) s)
       → Responds stands is_clean is_live leaves is_same old new command unread result (λ left s. ByKey office key h (after_head ++ left) s)
   by_office old new command unread result office key h after_head e r =
-      responds_as old new command command unread result (λ left s. ByCaller caller.Office h (after_head ++ left) s) (λ left s. ByKey office key h (after_head ++ left) s) (λ is. is) (λ is. is)
-      (λ left s reply after does. subst (λ (b : Bool). ByWhom b key h (after_head ++ left) s reply after) (sym e) does) r
+      responds_as old new command command unread result (λ left s. ByCaller office caller.Office h (after_head ++ left) s) (λ left s. ByKey office key h (after_head ++ left) s) (λ is. is) (λ is. is)
+      (λ left s reply after does. subst (λ (b : Bool). ByWhom office b key h (after_head ++ left) s reply after) (sym e) does) r
 
 -- ---- keys
 
@@ -515,8 +535,8 @@ module _ {K : Type 0} (stands : K → State → Type 0) (is_clean is_live : K �
       → Responds stands is_clean is_live leaves is_same old new command unread (Ok response) (λ left s. ByKey office key h (after_head ++ left) s)
   by_nobody old new command unread response office key h after_head e is reads =
       asked_in_vain old new command unread response key (λ left s. ByKey office key h (after_head ++ left) s) (Ok None) (ap (λ (r : Reply). is_done r.status) is) reads
-      (λ left s st clean. inl (subst (λ (b : Bool). ByWhom b key h (after_head ++ left) s (reply_of response) s) (sym e)
-      (subst (λ (o : Result (Option ℕ) StoreFault). ByOwner o h (after_head ++ left) s (reply_of response) s) (sym (reads.answer clean s st)) (is, refl))))
+      (λ left s st clean. inl (subst (λ (b : Bool). ByWhom office b key h (after_head ++ left) s (reply_of response) s) (sym e)
+      (subst (λ (o : Result (Option ℕ) StoreFault). ByOwner office o h (after_head ++ left) s (reply_of response) s) (sym (reads.answer clean s st)) (is, refl))))
 
   -- the owner of the key couldn't be looked up
   pub by_none : (old new : K) (command : Bool) (unread : Option (List ℕ)) (response : Response) (office key : List ℕ) (h : RequestHead) (after_head : List ℕ) (f : StoreFault)
@@ -557,13 +577,13 @@ module _ {K : Type 0} (stands : K → State → Type 0) (is_clean is_live : K �
   pub by_driver : (old mid new : K) (command : Bool) (unread : Option (List ℕ)) (result : Result Response Failed) (office key : List ℕ) (n : ℕ) (h : RequestHead) (after_head : List ℕ) → bytes_eq key office ≡ false
       → Reads stands is_clean is_live leaves is_same (λ (n : Option ℕ). n) old mid (Ok (Some n)) (owner key)
       → Responds stands is_clean is_live leaves is_same mid new command unread result
-      (λ left s. ByCaller (caller.Driver n) h (after_head ++ left) s)
+      (λ left s. ByCaller office (caller.Driver n) h (after_head ++ left) s)
       → Responds stands is_clean is_live leaves is_same old new command unread result (λ left s. ByKey office key h (after_head ++ left) s)
   by_driver old mid new command unread result office key n h after_head e reads r =
-      asked_for old mid new command unread result key n (λ left s. ByCaller (caller.Driver n) h (after_head ++ left) s) (λ left s. ByKey office key h (after_head ++ left) s) reads
+      asked_for old mid new command unread result key n (λ left s. ByCaller office (caller.Driver n) h (after_head ++ left) s) (λ left s. ByKey office key h (after_head ++ left) s) reads
       (λ left s reply after whose does.
-      subst (λ (b : Bool). ByWhom b key h (after_head ++ left) s reply after) (sym e)
-      (subst (λ (o : Result (Option ℕ) StoreFault). ByOwner o h (after_head ++ left) s reply after) (sym whose) does)) r
+      subst (λ (b : Bool). ByWhom office b key h (after_head ++ left) s reply after) (sym e)
+      (subst (λ (o : Result (Option ℕ) StoreFault). ByOwner office o h (after_head ++ left) s reply after) (sym whose) does)) r
 
 -- ---- the input
 

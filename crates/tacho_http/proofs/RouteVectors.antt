@@ -5,7 +5,7 @@ use Rattle.tacho_desk.specs.declared.want.MonthOfAll.TheVariants.{Incidents, Ove
 use Rattle.tacho_desk.specs.declared.want.MonthReading.TheVariants.{Chart, Gaps, Sheet, Spans, Why}
 use Rattle.tacho_desk.specs.declared.want.Reading.TheVariants.{Breaches, Debts, Entries, Files, Form, Owed, Stretches}
 use Rattle.tacho_desk.specs.declared.want.Want.{Want}
-use Rattle.tacho_desk.specs.declared.want.Want.TheVariants.{Base, Drivers, Enter, File, Import, MonthOfAll, MonthReading, Reading, Register, Version, Withdraw}
+use Rattle.tacho_desk.specs.declared.want.Want.TheVariants.{Base, Drivers, Enter, File, Import, Key, MonthOfAll, MonthReading, Reading, Register, Version, Withdraw}
 use Rattle.tacho_message.specs.declared.method.Method.TheVariants.{Get, Post}
 use Rattle.tacho_http.specs.Routes.{Named, named_in, routes, with_offers}
 use Rattle.tacho_http.specs.declared.places.Asker.{Asker}
@@ -68,6 +68,7 @@ by_post =
     ∷ names (codes "/drivers/17/entries") Office Enter (codes "17") (codes "entries")
     ∷ names (codes "/drivers/17/withdraw/1") Office Withdraw (codes "17") (codes "1")
     ∷ names (codes "/drivers/17/base/2024-03-04") Office Base (codes "17") (codes "2024-03-04")
+    ∷ names (codes "/drivers/17/key") Office Key (codes "17") (codes "key")
     ∷ names (codes "/me/cards/both") Driver Import [] (codes "both")
     ∷ nothing (codes "/drivers//owed") ∷ nothing (codes "/drivers/") ∷ nothing (codes "/me/cards/") ∷ nothing (codes "/me/owed/1") ∷ []
 

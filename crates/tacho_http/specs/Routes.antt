@@ -10,7 +10,7 @@ use Rattle.tacho_desk.specs.declared.want.MonthOfAll.TheVariants.{Incidents, Ove
 use Rattle.tacho_desk.specs.declared.want.MonthReading.TheVariants.{Chart, Gaps, Sheet, Spans, Why}
 use Rattle.tacho_desk.specs.declared.want.Reading.TheVariants.{Breaches, Debts, Entries, Files, Form, Owed, Stretches}
 use Rattle.tacho_desk.specs.declared.want.Want.{Want}
-use Rattle.tacho_desk.specs.declared.want.Want.TheVariants.{Base, Drivers, Enter, File, Import, MonthOfAll, MonthReading, Reading, Register, Version, Withdraw}
+use Rattle.tacho_desk.specs.declared.want.Want.TheVariants.{Base, Drivers, Enter, File, Import, Key, MonthOfAll, MonthReading, Reading, Register, Version, Withdraw}
 use Rattle.tacho_message.specs.declared.method.Method.{Method}
 use Rattle.tacho_message.specs.declared.method.Method.TheVariants as method
 use Rattle.tacho_http.specs.declared.places.Found.{Found}
@@ -62,6 +62,7 @@ office_table =
     ∷ table_row (codes "/overview/{word}") Office (Some (MonthOfAll Overview)) None
     ∷ table_row (codes "/incidents/{word}") Office (Some (MonthOfAll Incidents)) None
     ∷ table_row (codes "/version") Office (Some Version) None
+    ∷ table_row (codes "/drivers/{driver}/key") Office None (Some Key)
     ∷ []
 
 -- what else a driver may ask for

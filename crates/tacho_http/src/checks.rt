@@ -10,15 +10,16 @@ ghost use Rattle.tacho_state.specs.State.{State};
 ghost use Rattle.tacho_desk.specs.Wants.{is_command};
 ghost use Rattle.tacho_http.specs.Answer.{Asks, LacksMore, MayAsk, Responds};
 ghost use Rattle.tacho_http.specs.Asked.{is_post};
-ghost use Rattle.tacho_http.specs.Serve.{ByCaller, ByKey, Runs};
+ghost use Rattle.tacho_http.specs.Serve.{ByCaller, ByKey, IsReserved, Runs};
 
 use crate::asked::{asked_of, asker_of};
 use crate::places::{Found, Routes};
 use crate::response::{Response, fixed, refusal, reply};
 use std::alloc::Global;
-use tacho_desk::{carry_out, task_of};
+use tacho_desk::{Fault, Task, carry_out, task_of};
 use tacho_message::{BodyFault, Method, Request, Status, body_length_of, read_body};
-use tacho_state::{Caller, Keeper};
+use tacho_sheet::{Fault as ToldFault, read_key_line};
+use tacho_state::{Caller, Keeper, StoreFault};
 use tacho_time::{Failed, Source};
 
 /// Answers a request by its key: the office's, which is checked first, or a driver's. Without routes, for which memory ran out, a caller
@@ -45,13 +46,22 @@ pub(crate) fn by_key<K: Keeper, R: Source>(
     ensures failed { IsErr result ↔ (R.has_failed reader.new ≡ true) }
 {
     if key == office_key {
-        return by_caller(alloc, routes, keeper, Caller::Office, reader, request);
+        return by_caller(
+            alloc,
+            routes,
+            keeper,
+            office_key,
+            Caller::Office,
+            reader,
+            request,
+        );
     }
     match keeper.who(key) {
         Ok(Some(number)) => by_caller(
             alloc,
             routes,
             keeper,
+            office_key,
             Caller::Driver(number),
             reader,
             request,
@@ -66,6 +76,7 @@ fn by_caller<K: Keeper, R: Source>(
     alloc: Global,
     routes: Option<&Routes>,
     keeper: &mut K,
+    office_key: &[u8],
     caller: Caller,
     reader: &mut R,
     request: &Request<'_>,
@@ -74,7 +85,7 @@ fn by_caller<K: Keeper, R: Source>(
     requires within { All (IsHeaderWithin (length request.now.buffer.now)) request.now.fields.now }
     ensures responds { (h : RequestHead) → IsRequest request.now h
         → Responds K.stands K.is_clean K.is_live K.leaves K.is_same keeper.old keeper.new (is_post (method_of h.method)) (R.unread reader.old) result
-        (λ left s. ByCaller caller h (request.now.after_head.now ++ left) s) }
+        (λ left s. ByCaller office_key.now caller h (request.now.after_head.now ++ left) s) }
     ensures lacks { (h : RequestHead) (key : List ℕ) → IsRequest request.now h → key_of h ≡ Some key → IsErr result
         → LacksMore (λ by c. (by ≡ key) × (c ≡ caller)) h request.now.after_head.now (R.unread reader.old) (R.unread reader.new) }
     ensures failed { IsErr result ↔ (R.has_failed reader.new ≡ true) }
@@ -92,6 +103,7 @@ fn by_caller<K: Keeper, R: Source>(
         Ok(length) => run_task(
             alloc,
             keeper,
+            office_key,
             caller,
             asked,
             length,
@@ -102,10 +114,25 @@ fn by_caller<K: Keeper, R: Source>(
     }
 }
 
+/// True if a task would give the office's key to a driver. A request with that key would be the office's.
+fn is_reserved(office_key: &[u8], task: &Task, body: &[u8]) -> bool
+    ensures yes { result ≡ true → IsReserved office_key.now task.now body.now }
+    ensures no { result ≡ false → ¬ IsReserved office_key.now task.now body.now }
+{
+    let Task::Key { .. } = task else {
+        return false;
+    };
+    match read_key_line(body) {
+        Ok(key) => key.as_bytes() == office_key,
+        Err(_) => false,
+    }
+}
+
 /// Does what a caller asks for, with a body of `count` bytes. The first bytes of the body came after the head.
 fn run_task<K: Keeper, R: Source>(
     alloc: Global,
     keeper: &mut K,
+    office_key: &[u8],
     caller: Caller,
     asked: Found<'_>,
     count: u64,
@@ -114,7 +141,7 @@ fn run_task<K: Keeper, R: Source>(
 ) -> Result<Response, Failed>
     requires { R.has_failed reader.old ≡ false }
     ensures responds { Responds K.stands K.is_clean K.is_live K.leaves K.is_same keeper.old keeper.new (is_command asked.entry.place.want) (R.unread reader.old) result
-        (λ left s. Runs (record { want = asked.entry.place.want; driver = asked.entry.driver.now; word = asked.entry.word.now }) count caller (after_head.now ++ left) s) }
+        (λ left s. Runs office_key.now (record { want = asked.entry.place.want; driver = asked.entry.driver.now; word = asked.entry.word.now }) count caller (after_head.now ++ left) s) }
     ensures lacks { IsErr result → Lacks after_head.now (R.unread reader.old) (R.unread reader.new) count }
     ensures failed { IsErr result ↔ (R.has_failed reader.new ≡ true) }
 {
@@ -127,7 +154,12 @@ fn run_task<K: Keeper, R: Source>(
     let want = asked.place.want;
     let task = task_of(want, caller, asked.driver, asked.word);
     match task {
-        Ok(task) => Ok(reply(want, carry_out(alloc, keeper, task, &body))),
+        Ok(task) => {
+            if is_reserved(office_key, &task, &body) {
+                return Ok(refusal(Fault::Told(ToldFault::Store(StoreFault::KeyTaken))));
+            }
+            Ok(reply(want, carry_out(alloc, keeper, task, &body)))
+        }
         Err(fault) => Ok(refusal(fault)),
     }
 }

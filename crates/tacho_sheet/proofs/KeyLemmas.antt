@@ -50,3 +50,19 @@ key_is_cut text line key (inr (inr (same, other))) is (inr (inr crlf)) = absurd 
 -- so a text is no line with a key if what is left is no key
 pub no_key_line : (text line : List ℕ) → IsCut text line → ¬ IsKeyText line → (key : List ℕ) → ¬ IsKeyLine text key
 no_key_line text line cut none key is = none (subst IsKeyText (key_is_cut text line key cut is.0.1 is.1) is.0)
+
+-- a text is the line of at most one key
+one_line : (text a b : List ℕ) → IsKey a → IsKey b → IsLine text a → IsLine text b → a ≡ b
+one_line text a b x y (inl p) (inl q) = sym p ∙ q
+one_line text a b x y (inl p) (inr (inl q)) = absurd (not_last 10 not_lf a b x (sym p ∙ q))
+one_line text a b x y (inl p) (inr (inr q)) = absurd (not_last 10 not_lf a (b ++ 13 ∷ []) x (sym p ∙ q ∙ two b))
+one_line text a b x y (inr (inl p)) (inl q) = absurd (not_last 10 not_lf b a y (sym q ∙ p))
+one_line text a b x y (inr (inl p)) (inr (inl q)) = (same_from_push a b 10 10 (sym p ∙ q)).0
+one_line text a b x y (inr (inl p)) (inr (inr q)) = absurd (not_last 13 not_cr a b x (same_from_push a (b ++ 13 ∷ []) 10 10 (sym p ∙ q ∙ two b)).0)
+one_line text a b x y (inr (inr p)) (inl q) = absurd (not_last 10 not_lf b (a ++ 13 ∷ []) y (sym q ∙ p ∙ two a))
+one_line text a b x y (inr (inr p)) (inr (inl q)) = absurd (not_last 13 not_cr b a y (same_from_push b (a ++ 13 ∷ []) 10 10 (sym q ∙ p ∙ two a)).0)
+one_line text a b x y (inr (inr p)) (inr (inr q)) =
+    (same_from_push a b 13 13 (same_from_push (a ++ 13 ∷ []) (b ++ 13 ∷ []) 10 10 (sym (two a) ∙ sym p ∙ q ∙ two b)).0).0
+
+pub one_key : (text a b : List ℕ) → IsKeyLine text a → IsKeyLine text b → a ≡ b
+one_key text a b x y = one_line text a b x.0.1 y.0.1 x.1 y.1

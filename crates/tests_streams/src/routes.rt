@@ -10,6 +10,7 @@ office POST /cards/both
 office POST /drivers/17/entries
 office POST /drivers/17/withdraw/1
 office POST /drivers/17/base/2024-03-04
+office POST /drivers/17/key
 office GET /drivers/17/spans/2024-03
 office GET /drivers/17/gaps/2024-03
 office GET /drivers/17/sheet/2024-03
@@ -52,6 +53,7 @@ static STATUSES: &str = "\
 /drivers/17/entries             200 201 405 405  403 403 405 405  403 403 403 403  403 403 403 403  403 403 403 403
 /drivers/17/withdraw/1          405 200 405 405  405 403 405 405  403 403 403 403  403 403 403 403  403 403 403 403
 /drivers/17/base/2024-03-04     405 200 405 405  405 403 405 405  403 403 403 403  403 403 403 403  403 403 403 403
+/drivers/17/key                 405 200 405 405  405 403 405 405  403 403 403 403  403 403 403 403  403 403 403 403
 /drivers/17/spans/2024-03       200 405 405 405  403 405 405 405  403 403 403 403  403 403 403 403  403 403 403 403
 /drivers/17/gaps/2024-03        200 405 405 405  403 405 405 405  403 403 403 403  403 403 403 403  403 403 403 403
 /drivers/17/sheet/2024-03       200 405 405 405  403 405 405 405  403 403 403 403  403 403 403 403  403 403 403 403
@@ -135,6 +137,9 @@ const DRIVER: &str =
 const CARD: &str =
     "\x05\x20\x00\x00\x11\x0dD123456789012300\x05\x04\x00\x00\x10\x00\x00\x00\x00\x00\x00\x00\x00\x00\x00\x00\x00\x00\x00\x00\x00";
 
+/// A key that no driver has.
+const KEY: &str = "carl-key-1\n";
+
 /// Hours that aren't entered yet.
 const HOURS: &str = "start,past,activity\n2024-03-07 00:00,2024-03-07 08:00,rest\n";
 
@@ -144,6 +149,7 @@ fn body_at(path: &str) -> &'static str {
         "/drivers" => DRIVER,
         "/cards/both" | "/me/cards/both" => CARD,
         "/drivers/17/entries" => HOURS,
+        "/drivers/17/key" => KEY,
         _ => "",
     }
 }

@@ -12,7 +12,7 @@ pub returns-in_default-clause-responds : goal.returns-in_default-clause-responds
 returns-in_default-clause-responds g c h is =
     let k = g.K.Keeper in
     unavailable k.stands k.is_clean k.is_live k.leaves k.is_same k.same_self c.args.keeper.now (is_post (method_of h.method)) (g.R.Source.unread c.args.reader.now) c.fixed.result
-    (λ left s. ByCaller c.args.caller h (c.args.request.now.after_head.now ++ left) s) c.fixed.ensures
+    (λ left s. ByCaller c.args.office_key.now c.args.caller h (c.args.request.now.after_head.now ++ left) s) c.fixed.ensures
 
 pub returns-in-Err-clause-responds : goal.returns-in-Err-clause-responds
 returns-in-Err-clause-responds g c h is =
@@ -20,7 +20,7 @@ returns-in-Err-clause-responds g c h is =
     let r = c.args.request.now in
     let found = wish_found_by c.args.caller h c.read-method.result r.method.now r.path.now c.asker_of.result _ _ (Err c.in-Err.status)
     c.read-method.ensures c.asker_of.ensures c.find.ensures.get c.find.ensures.post is.method is.path c.in-Err.ensures in
-    no_wish k.stands k.is_clean k.is_live k.leaves k.is_same k.same_self c.args.keeper.now (g.R.Source.unread c.args.reader.now) c.fixed-in-Err.result c.args.caller h r.after_head.now
+    no_wish k.stands k.is_clean k.is_live k.leaves k.is_same k.same_self c.args.office_key.now c.args.keeper.now (g.R.Source.unread c.args.reader.now) c.fixed-in-Err.result c.args.caller h r.after_head.now
     c.in-Err.status c.fixed-in-Err.ensures (wish_refused _ _ _ _ c.in-Err.status c.in-Err.ensures) found
 
 pub returns-in-Err-body_length_of-clause-responds : goal.returns-in-Err-body_length_of-clause-responds
@@ -33,7 +33,7 @@ returns-in-Err-body_length_of-clause-responds g c h is =
     c.read-method.ensures c.asker_of.ensures c.find.ensures.get c.find.ensures.post is.method is.path c.in-Ok.ensures in
     let long = length_found h c.read-method.result r.method.now w.want c.takes_input-takes.result (map (header_bytes r.buffer.now) r.fields.now) (Err c.in-Err-body_length_of.status)
     c.read-method.ensures c.takes_input-takes.ensures is.method is.fields c.in-Err-body_length_of.ensures in
-    no_length k.stands k.is_clean k.is_live k.leaves k.is_same k.same_self c.args.keeper.now (g.R.Source.unread c.args.reader.now) c.fixed-in-Err-body_length_of.result c.args.caller h r.after_head.now w
+    no_length k.stands k.is_clean k.is_live k.leaves k.is_same k.same_self c.args.office_key.now c.args.keeper.now (g.R.Source.unread c.args.reader.now) c.fixed-in-Err-body_length_of.result c.args.caller h r.after_head.now w
     c.in-Err-body_length_of.status c.fixed-in-Err-body_length_of.ensures (length_refused c.read-method.result c.takes_input-takes.result
     (map (header_bytes r.buffer.now) r.fields.now) c.in-Err-body_length_of.status c.in-Err-body_length_of.ensures) found long
 
@@ -47,7 +47,7 @@ returns-in-Ok-body_length_of-clause-responds g c h is =
     c.read-method.ensures c.asker_of.ensures c.find.ensures.get c.find.ensures.post is.method is.path c.in-Ok.ensures in
     let long = length_found h c.read-method.result r.method.now w.want c.takes_input-takes.result (map (header_bytes r.buffer.now) r.fields.now) (Ok c.in-Ok-body_length_of.length)
     c.read-method.ensures c.takes_input-takes.ensures is.method is.fields c.in-Ok-body_length_of.ensures in
-    by_wish k.stands k.is_clean k.is_live k.leaves k.is_same k.same_self c.args.keeper.now c.run_task.new.keeper (is_command w.want) (g.R.Source.unread c.args.reader.now)
+    by_wish k.stands k.is_clean k.is_live k.leaves k.is_same k.same_self c.args.office_key.now c.args.keeper.now c.run_task.new.keeper (is_command w.want) (g.R.Source.unread c.args.reader.now)
     c.run_task.result c.args.caller h r.after_head.now w c.in-Ok-body_length_of.length
     (λ post. posts_are_commands (asker_of c.args.caller) h.method h.target w found post)
     (λ other. commands_are_posts (asker_of c.args.caller) h.method h.target w found other) found long c.run_task.ensures.responds

@@ -1,4 +1,4 @@
-use Rattle.std.proofs.Common.{◌≡◌, ◌∙◌, ◌+◌, ◌-◌, length, take, drop, arith}
+use Rattle.std.proofs.Common.{◌∙◌, ◌+◌, ◌-◌, length, drop, arith}
 use Rattle.std.proofs.lemmas.List.{length-drop, take_all}
 use Rattle.tacho_http.proofs.PartLemmas.{after_last, last_whole}
 use Rattle.tacho_http.proofs.places.word_of.Goals as goal
