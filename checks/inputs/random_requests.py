@@ -131,6 +131,8 @@ class Requests(office_lines.Lines):
 
     def reading(self) -> Command:
         """A reading that has a path: `check` and `migrate` are the command line's alone."""
+        if self.chance.random() < 0.05:
+            return ["version"], b""
         words, given = super().reading()
         return (words, given) if words[0] in PATHS else self.reading()
 
@@ -158,7 +160,7 @@ class Requests(office_lines.Lines):
         is_own = command == "own" or command in OWN and self.chance.random() < 0.4
         path = PATHS[command].replace("/drivers/{driver}", "/me") if is_own else PATHS[command]
         driver, word = ("", others[0]) if others and "{driver}" not in PATHS[command] else (*others, "", "")[:2]
-        fields = [("x-key", self.key_of(others[0]) if is_own else self.office_key)]
+        fields = [("x-key", (self.key_of(others[0]) if others else self.any_key()) if is_own else self.office_key)]
         if is_input or command in POSTED and self.chance.random() < 0.5:
             fields.append(("content-length", str(len(given))))
         method = "POST" if command in POSTED else "GET"
