@@ -13,8 +13,9 @@ REQUESTS = 40
 OFFICE_KEY = "office-key-1"
 UNKNOWN_KEYS = ["carl-key-1", "", "office-key-", "office-key-11", "OFFICE-KEY-1", "office-key-1, anna-key-1", '"office-key-1"']
 
-# By the name of a command: its path, with the command's arguments. A driver has `/me` where the office names them.
-PATHS = {name: command.office for name, command in commands.REQUESTS.items()} | {"own": "/drivers/{driver}/cards/{word}"}
+# By the name of a command: the office's path, and a driver's. A driver's import has a name of its own.
+PATHS = {name: command.office for name, command in commands.REQUESTS.items()} | {"own": ""}
+OWN_PATHS = {name: command.driver for name, command in commands.REQUESTS.items()} | {"own": commands.REQUESTS["import"].driver}
 OWN = ["own", *(name for name, command in commands.REQUESTS.items() if command.method == "GET" and command.driver)]
 POSTED = ["own", *(name for name, command in commands.REQUESTS.items() if command.method == "POST")]
 WITH_INPUT = ["own", *(name for name, command in commands.REQUESTS.items() if command.input)]
@@ -130,9 +131,12 @@ class Requests(office_lines.Lines):
         return random_commands.Commands.import_new(self)
 
     def reading(self) -> Command:
-        """A reading that has a path: `check` and `migrate` are the command line's alone."""
+        """A reading that has a path: `check` and `migrate` are the command line's alone. Often enough the version, and a file that is there."""
         if self.chance.random() < 0.05:
             return ["version"], b""
+        if self.chance.random() < 0.05:
+            kept = [driver.number for driver in self.drivers.values() if driver.downloads]
+            return ["file", str(self.chance.choice(kept or [17])), "1"], b""
         words, given = super().reading()
         return (words, given) if words[0] in PATHS else self.reading()
 
@@ -158,8 +162,8 @@ class Requests(office_lines.Lines):
         command, *others = words
         is_input = command in WITH_INPUT
         is_own = command == "own" or command in OWN and self.chance.random() < 0.4
-        path = PATHS[command].replace("/drivers/{driver}", "/me") if is_own else PATHS[command]
-        driver, word = ("", others[0]) if others and "{driver}" not in PATHS[command] else (*others, "", "")[:2]
+        path = OWN_PATHS[command] if is_own else PATHS[command]
+        driver, word = ("", others[0]) if len(others) == 1 and "{driver}" not in PATHS[command] else (*others, "", "")[:2]
         fields = [("x-key", (self.key_of(others[0]) if others else self.any_key()) if is_own else self.office_key)]
         if is_input or command in POSTED and self.chance.random() < 0.5:
             fields.append(("content-length", str(len(given))))
