@@ -1,4 +1,5 @@
 """Runs programs, as they are, with their memory refused, and on disks that stop."""
+import functools
 import bisect
 import os
 import subprocess
@@ -24,6 +25,7 @@ def told_by(words: Sequence[str | bytes], given: bytes = b"", **others: Any) -> 
     return made.stdout, made.returncode, made.stderr
 
 
+@functools.cache
 def version_lines() -> bytes:
     """What the program prints as its version: that of the file VERSION, the schema of its archives, and the kit's line."""
     with open(os.path.join(TOP, "VERSION"), encoding="utf-8") as file:
