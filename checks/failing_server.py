@@ -43,7 +43,7 @@ CASES = {
     "evidence": Case(WITH_HOURS, asking("GET /me/why/2024-03", DRIVER)),
     "a chart": Case(WITH_HOURS, asking("GET /drivers/17/chart/2024-03", OFFICE)),
     "an overview": Case(WITH_HOURS, asking("GET /overview/2024-03", OFFICE)),
-    "a bad month": Case(WITH_HOURS, asking("GET /drivers/17/sheet/2024-13", OFFICE)),
+    "a bad month": Case(WITH_HOURS, asking("GET /me/sheet/2024-13", DRIVER)),
     "an unknown path": Case(WITH_HOURS, asking("GET /nothing", DRIVER)),
     "a key of nobody": Case(WITH_HOURS, asking("GET /me/breaches", "anna-key-2")),
 }

@@ -1,6 +1,6 @@
 """Runs programs, as they are, with their memory refused, and on disks that stop."""
-import functools
 import bisect
+import functools
 import os
 import subprocess
 import tempfile
