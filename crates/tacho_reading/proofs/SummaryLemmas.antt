@@ -1,5 +1,6 @@
 -- All drivers are listed in the order of their numbers.
-use Rattle.std.proofs.Common.{◌≡◌, ◌∙◌, ◌⊎◌, List, [], ◌∷◌, map, Result, Ok, Err, IfOk, IfErr, refl, sym, ap, subst}
+use Rattle.std.proofs.Common.{◌≡◌, ◌∙◌, ◌⊎◌, ℕ, List, [], ◌∷◌, map, Option, Some, None, Result, Ok, Err, IfOk, IfErr, refl, sym, ap, subst}
+use Rattle.std.specs.Prelude.{IfSome, ok_or}
 use Rattle.std.specs.List.Sorted.{IsPermutation}
 use Rattle.std.specs.Ordering.{is_lt, nat_cmp}
 use Rattle.std.proofs.lemmas.List.Sorted.{IsPermutation-map}
@@ -8,12 +9,13 @@ use Rattle.tacho_state.specs.declared.fault.StoreFault.{StoreFault}
 use Rattle.tacho_state.specs.declared.fault.StoreFault.TheVariants.{Memory, Store}
 use Rattle.tacho_state.specs.declared.summary.DriverSummary.{DriverSummary}
 use Rattle.tacho_state.specs.Acts.{Answers}
-use Rattle.tacho_state.specs.State.{State}
-use Rattle.tacho_state.specs.Summaries.{AreSummaries, Summary, summary_of, told_summary}
+use Rattle.tacho_state.specs.State.{Driver, State, driver_of}
+use Rattle.tacho_state.specs.Summaries.{AreSummaries, Summary, driver_reading, summary_of, told_summary}
 use Rattle.tacho_state.proofs.SummaryLemmas.{sorted_map}
 use Rattle.tacho_tables.specs.declared.rows.StoredDriver.{StoredDriver}
 use Rattle.tacho_tables.specs.Rows.{DriverRow}
 use Rattle.tacho_tables.specs.Tables.{AreListed, HasTables, ListedDriver, Tables, listed_driver, told_driver}
+use Rattle.tacho_reading.specs.Finding.{IsStored}
 use Rattle.tacho_reading.specs.Standing.{Represents, driver_columns, summary_of_listed}
 use Rattle.tacho_reading.proofs.TimelineLemmas.{gave_up}
 
@@ -44,6 +46,15 @@ unfolding Represents
 drivers_told items db s rows (Ok v) (t, stand, of) read is =
     subst (AreSummaries s) (sym is) (are_summaries t s (map told_driver rows) of.drivers (read t stand))
 drivers_told items db s rows (Err f) (t, stand, of) read is = tt
+
+-- the driver is listed as their row is, or the call gave up
+pub driver_told : (n : ℕ) (s : State) (d : Driver) (it : StoredDriver) (found : Option DriverSummary) → driver_of n s ≡ Some d
+    → IsStored it d → IfSome found (λ summary. told_summary summary ≡ summary_of_listed (told_driver it))
+    → Answers (λ summary. told_summary summary) (ok_or found Store) (driver_reading n s)
+driver_told n s d it (Some summary) is stored same =
+    let told = rw (stored.number, stored.holder, stored.base, stored.downloads, stored.entries, stored.name) at same in
+    rw is (ap Ok (sym told))
+driver_told n s d it None is stored same = tt
 
 -- the call answered, or it gave up
 pub drivers_answer : {V : Type 0} (r : Result V StoreFault) → IfErr r (λ f. (f ≡ Memory) ⊎ (f ≡ Store))

@@ -8,7 +8,7 @@ ghost use Rattle.tacho_state.specs.State.{State};
 ghost use Rattle.tacho_state.specs.Steps.{owner, name_reading, line_reading, entries_reading, file_reading, report_reading};
 ghost use Rattle.tacho_state.specs.Reported.{AreStretchesOf, IsHeldWithin, IsHeldFromBase, IsDriverReport};
 ghost use Rattle.tacho_stretches.specs.Stretches.{judged_of};
-ghost use Rattle.tacho_state.specs.Summaries.{AreSummaries, told_summary};
+ghost use Rattle.tacho_state.specs.Summaries.{AreSummaries, driver_reading, told_summary};
 ghost use Rattle.tacho_state.specs.Acts.{Answers};
 ghost use Rattle.tacho_reading.specs.Calls.{Tells};
 ghost use Rattle.tacho_reading.specs.Kept.{SeesWhileOpen, ReadsOn};
@@ -18,7 +18,7 @@ use crate::fault::store_fault;
 use crate::feeding::feed_held;
 use crate::finding::driver_with;
 use crate::near::{first_start, rows_near};
-use crate::spans::{line_of_stored, listed_entries, summaries_of};
+use crate::spans::{line_of_stored, listed_entries, summaries_of, summary_of};
 use crate::stretching::take_held;
 use sqlite::{Alter, Connection, Transaction};
 use std::alloc::Global;
@@ -83,6 +83,35 @@ pub fn drivers<S: Alter>(
     let _settled = conn.is_autocommit();
     let mut tx = conn.transaction();
     let found = drivers_in(alloc, &mut tx);
+    tx.rollback();
+    match opening::ask(conn) {
+        Ok(()) => found,
+        Err(fault) => Err(store_fault(fault)),
+    }
+}
+
+/// Reads what is listed of a driver, within a transaction: S4. A row without a base day, which no archive writes, is a store failure.
+fn driver_in<S: Alter>(
+    tx: &mut Transaction<'_, S>,
+    driver: u32,
+) -> Result<DriverSummary, StoreFault>
+    ensures { Tells S.Store tx.old.conn tx.new.conn result
+        (λ _ s. Answers (λ found. told_summary found) result (driver_reading driver s)) }
+{
+    let stored = driver_with(tx, driver)?;
+    summary_of(stored).ok_or(StoreFault::Store)
+}
+
+/// Reads what is listed of a driver: S4.
+pub fn driver<S: Alter>(conn: &mut Connection<S>, driver: u32) -> Result<DriverSummary, StoreFault>
+    requires { conn.old.in_transaction ≡ false }
+    ensures autocommit { conn.new.in_transaction ≡ false }
+    ensures reads { ReadsOn S.Store (λ found. told_summary found) conn.old conn.new result (driver_reading driver) }
+{
+    // For the proof alone: nothing is pending, so what is seen is what was committed.
+    let _settled = conn.is_autocommit();
+    let mut tx = conn.transaction();
+    let found = driver_in(&mut tx, driver);
     tx.rollback();
     match opening::ask(conn) {
         Ok(()) => found,

@@ -171,7 +171,7 @@ fn day_of(number: u32) -> Option<Day>
 }
 
 /// Returns what is listed of a stored driver, if an archive can have written the row.
-fn summary_of(row: StoredDriver) -> Option<DriverSummary>
+pub(crate) fn summary_of(row: StoredDriver) -> Option<DriverSummary>
     ensures some { IfSome result (λ summary. told_summary summary ≡ summary_of_listed (told_driver row)) }
     ensures none { IsNone result ↔ (¬ HasBaseDay (told_driver row)) }
 {

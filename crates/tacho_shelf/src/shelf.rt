@@ -9,7 +9,7 @@ ghost use Rattle.tacho_state.specs.Steps.{Content, register_step, import_step, e
 ghost use Rattle.tacho_state.specs.Reported.{AreStretchesOf, IsHeldWithin, IsDriverReport};
 ghost use Rattle.tacho_stretches.specs.Stretches.{judged_of};
 ghost use Rattle.tacho_state.specs.Files.{files_reading, told_file};
-ghost use Rattle.tacho_state.specs.Summaries.{AreSummaries, told_summary};
+ghost use Rattle.tacho_state.specs.Summaries.{AreSummaries, driver_reading, told_summary};
 ghost use Rattle.tacho_state.specs.Acts.{Answers, caller_number};
 ghost use Rattle.tacho_shelf.specs.Shelf.{Turns, IsOwnerAt, known_by, owner_of, new_driver};
 
@@ -194,6 +194,19 @@ impl Shelf {
         }
         found.sort_unstable_by_key(|summary| summary.number);
         Ok(found)
+    }
+
+    /// Returns what is listed of a driver: S4.
+    fn summary_of(&self, alloc: Global, driver: u32) -> Result<DriverSummary, StoreFault>
+        ensures { Answers (λ found. told_summary found) result (driver_reading driver self.now) }
+    {
+        let Some(place) = place_of(&self.drivers, driver) else {
+            return Err(StoreFault::UnknownDriver);
+        };
+        match self.drivers[place].summary(alloc) {
+            Ok(summary) => Ok(summary),
+            Err(_) => Err(StoreFault::Memory),
+        }
     }
 
     /// Returns the name of a driver: S4.
@@ -442,6 +455,10 @@ impl Keeper for Shelf {
 
     fn drivers(&mut self, alloc: Global) -> Result<Vec<DriverSummary>, StoreFault> {
         self.summaries(alloc)
+    }
+
+    fn driver(&mut self, alloc: Global, driver: u32) -> Result<DriverSummary, StoreFault> {
+        self.summary_of(alloc, driver)
     }
 
     fn name(&mut self, alloc: Global, driver: u32) -> Result<String, StoreFault> {

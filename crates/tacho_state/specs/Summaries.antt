@@ -1,7 +1,9 @@
--- Trusted: The list of an archive's drivers.
-use Rattle.std.specs.Prelude.{ℕ, List, IsPermutation, IsSorted, length, map, string_bytes}
+-- Trusted: What is listed of an archive's drivers.
+use Rattle.std.specs.Prelude.{ℕ, List, Ok, Result, IsPermutation, IsSorted, length, map, string_bytes}
 use Rattle.std.specs.Ordering.{nat_cmp}
-use Rattle.tacho_state.specs.State.{Driver, State}
+use Rattle.tacho_state.specs.State.{Driver, State, driver_of}
+use Rattle.tacho_state.specs.Steps.{reading_of}
+use Rattle.tacho_state.specs.declared.fault.StoreFault.{StoreFault}
 use Rattle.tacho_state.specs.declared.summary.DriverSummary.{DriverSummary}
 
 -- what is listed of a driver: their number, their card's holder, the day from which they are examined, the number of their downloads and of
@@ -34,6 +36,10 @@ told_summary d = record {
   entries = d.entries;
   name = string_bytes d.name;
 }
+
+-- what is listed of the driver with a number; S4 if there is none
+abbrev pub driver_reading : ℕ → State → Result Summary StoreFault
+driver_reading n s = reading_of (λ d. Ok (summary_of d)) (driver_of n s)
 
 -- each driver of the state once, the lowest number first
 pub record AreSummaries (s : State) (summaries : List Summary) : Type 0 where

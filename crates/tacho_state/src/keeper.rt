@@ -10,7 +10,7 @@ ghost use Rattle.tacho_state.specs.Limits.{IsKey};
 ghost use Rattle.tacho_state.specs.Registration.{IsReadDay};
 ghost use Rattle.tacho_state.specs.Content.{FileTells, part_number};
 ghost use Rattle.tacho_state.specs.Files.{files_reading, told_file};
-ghost use Rattle.tacho_state.specs.Summaries.{AreSummaries, told_summary};
+ghost use Rattle.tacho_state.specs.Summaries.{AreSummaries, driver_reading, told_summary};
 ghost use Rattle.tacho_state.specs.Acts.{Acts, Reads, IsOfNoFile, caller_number};
 ghost use Rattle.tacho_state.specs.declared.imported.Imported.TheVariants.{Repeated};
 ghost use Rattle.tacho_state.specs.declared.fault.StoreFault.TheVariants.{Memory, Card};
@@ -125,6 +125,10 @@ pub trait Keeper {
         ensures reads { Reads {B = Unit {0}} stands is_clean is_live leaves is_same (λ _. tt) self.old self.new result (λ _. Ok tt) }
         ensures drivers { is_clean self.new → (s : State) → stands self.old s
             → IfOk result (λ drivers. AreSummaries s (map told_summary drivers.items)) };
+
+    /// Returns what the list of all drivers says of one driver: S4.
+    fn driver(&mut self, alloc: Global, driver: u32) -> Result<DriverSummary, StoreFault>
+        ensures { Reads stands is_clean is_live leaves is_same (λ found. told_summary found) self.old self.new result (driver_reading driver) };
 
     /// Returns the name of a driver: S4.
     fn name(&mut self, alloc: Global, driver: u32) -> Result<String, StoreFault>

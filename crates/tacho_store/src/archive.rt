@@ -19,7 +19,7 @@ use tacho_card::Part;
 use tacho_line::Line;
 use tacho_reading::fault::store_fault;
 use tacho_reading::reading::{
-    download, drivers, entries, line, line_and_stretches, line_and_stretches_from_base,
+    download, driver, drivers, entries, line, line_and_stretches, line_and_stretches_from_base,
     line_within, name, report, stretches, who,
 };
 use tacho_rules::Report;
@@ -291,6 +291,10 @@ impl<S: Alter> Keeper for Archive<S> {
 
     fn drivers(&mut self, alloc: Global) -> Result<Vec<DriverSummary>, StoreFault> {
         drivers(alloc, &mut self.conn)
+    }
+
+    fn driver(&mut self, alloc: Global, number: u32) -> Result<DriverSummary, StoreFault> {
+        driver(&mut self.conn, number)
     }
 
     fn name(&mut self, alloc: Global, driver: u32) -> Result<String, StoreFault> {

@@ -2,8 +2,8 @@
 
 use crate::step::Standing::{Kept, Withdrawn};
 use crate::step::Step::{
-    Adds, Enter, Has, HasName, HasNoEntries, HasNoLine, HasNoName, HasNoReport, Holds, IsOf, Lacks,
-    Lists, Rebase, Refuses, Register, Rekey, Repeats, Reports, Withdraw,
+    Adds, Enter, Has, HasName, HasNoEntries, HasNoLine, HasNoName, HasNoReport, Holds, IsListed,
+    IsNotListed, IsOf, Lacks, Lists, Rebase, Refuses, Register, Rekey, Repeats, Reports, Withdraw,
 };
 use crate::step::{Code, Listed, Pieces, Step};
 use crate::stretch_rows::{
@@ -666,6 +666,22 @@ const ENTRIES_OF_TWO_DRIVERS_INTERLEAVE: &[Step] = &[
     ),
 ];
 
+/// Each driver is listed with their downloads and their entries, including withdrawn ones. A driver who isn't registered isn't listed: S4.
+const DRIVERS_ARE_LISTED: &[Step] = &[
+    IsNotListed(17, Code::S4),
+    REGISTER_ANNA,
+    REGISTER_BERT,
+    IsListed(17, 0, 0, 0),
+    Adds(Caller::Office, Part::Both, &[ANNA, FIRST, DAY], 17, 1),
+    Enter(17, NIGHT_HOURS, Ok((1, 1))),
+    Enter(17, NIGHT_HOURS, Ok((2, 1))),
+    Withdraw(17, 1, Ok(())),
+    Rebase(17, 14, Ok(())),
+    IsListed(17, 14, 1, 2),
+    IsListed(18, 7, 0, 0),
+    IsNotListed(19, Code::S4),
+];
+
 /// Each driver has their name. A driver who isn't registered has no name and no report: S4.
 const DRIVERS_HAVE_THEIR_NAMES: &[Step] = &[
     HasNoName(17, Code::S4),
@@ -744,7 +760,7 @@ const A_WITHDRAWAL_CHANGES_THE_REPORT: &[Step] = &[
 ];
 
 /// Each row, with its name.
-pub(crate) const ROWS: [(&str, &[Step]); 41] = [
+pub(crate) const ROWS: [(&str, &[Step]); 42] = [
     ("a day is added", A_DAY_IS_ADDED),
     ("empty data are repeated", EMPTY_DATA_ARE_REPEATED),
     (
@@ -807,6 +823,7 @@ pub(crate) const ROWS: [(&str, &[Step]); 41] = [
         "entries of two drivers interleave",
         ENTRIES_OF_TWO_DRIVERS_INTERLEAVE,
     ),
+    ("drivers are listed", DRIVERS_ARE_LISTED),
     ("drivers have their names", DRIVERS_HAVE_THEIR_NAMES),
     ("keys are of their drivers", KEYS_ARE_OF_THEIR_DRIVERS),
     ("a report is from the base", A_REPORT_IS_FROM_THE_BASE),

@@ -97,6 +97,8 @@ pub(crate) enum Step {
     Rekey(u32, &'static str, Result<(), Code>),
     /// A key is of this driver, or of none.
     IsOf(&'static [u8], Option<u32>),
+    /// A driver is listed: their number, how many days after Monday their base is, and how many downloads and entries they have.
+    IsListed(u32, u8, u32, u32),
     /// A driver has this name.
     HasName(u32, &'static str),
     /// A driver's timeline is exactly these spans.
@@ -113,6 +115,8 @@ pub(crate) enum Step {
     /// A driver holds exactly these spans in a range, and has exactly these stretches. The range goes from a minute to before another one,
     /// counted from Monday 00:00.
     InRange(u32, (u16, u16), Pieces, &'static [Judged]),
+    /// The reading of what is listed of a driver is refused.
+    IsNotListed(u32, Code),
     /// The reading of a driver's name is refused.
     HasNoName(u32, Code),
     /// The reading of a driver's timeline is refused.
@@ -205,6 +209,14 @@ fn take_reading<K: Keeper>(
         Step::IsOf(key, wanted) => {
             assert!(rt; keeper.who(key)? == wanted, "{place}");
         }
+        Step::IsListed(driver, day, downloads, entries) => {
+            let found = keeper.driver(alloc, driver)?;
+            let listed = (found.number, found.base, found.downloads, found.entries);
+            assert!(rt;
+                listed == (driver, day_of(day), downloads, entries),
+                "{place}"
+            );
+        }
         Step::HasName(driver, name) => {
             assert!(rt; keeper.name(alloc, driver)?.as_str() == name, "{place}");
         }
@@ -252,6 +264,9 @@ fn take_refused<K: Keeper>(
     step: Step,
 ) -> Result<(), Fail> {
     match step {
+        Step::IsNotListed(driver, code) => {
+            assert_refused(rt, place, keeper.driver(alloc, driver).err(), code);
+        }
         Step::HasNoName(driver, code) => {
             assert_refused(rt, place, keeper.name(alloc, driver).err(), code);
         }
