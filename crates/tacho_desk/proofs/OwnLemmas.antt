@@ -17,6 +17,7 @@ use Rattle.tacho_state.specs.Acts.{caller_number}
 use Rattle.tacho_state.specs.Registration.{Registration}
 use Rattle.tacho_state.specs.State.{Driver, State, driver_of, given_spans, held_spans, put}
 use Rattle.tacho_state.specs.Files.{files_reading}
+use Rattle.tacho_state.specs.Summaries.{driver_reading}
 use Rattle.tacho_state.specs.Steps.{Content, Own, Turn, file_reading, enter_step, import_by_driver, import_step, kept_by, entries_reading, most_records, own_turn, rebase_step, register_step, turn_of, reading_of, rekey_step, withdraw_step}
 use Rattle.tacho_state.specs.declared.caller.Caller.TheVariants as caller
 use Rattle.tacho_state.specs.declared.fault.StoreFault.{StoreFault}
@@ -29,7 +30,7 @@ use Rattle.tacho_sheet.specs.Why.{IsMonthWhy}
 use Rattle.tacho_sheet.specs.declared.fault.SheetFault.{SheetFault}
 use Rattle.tacho_desk.specs.Doing.{Doing, IsText, IsTextOf, Lists, Shows, Steps, in_words}
 use Rattle.tacho_desk.specs.Own.{OneAnswer, OthersStay, RefusalsStay, SameAnswers}
-use Rattle.tacho_desk.specs.Tasks.{EntersRead, Imports, IsFormOf, OfReport, OfStretches, RegistersRead, RekeysRead, ShowsFile, ShowsMonth, ShowsMonthOfAll, ShowsReading, entered_told, imported_told}
+use Rattle.tacho_desk.specs.Tasks.{EntersRead, Imports, IsFormOf, OfReport, OfStretches, RegistersRead, RekeysRead, ShowsDriver, ShowsFile, ShowsMonth, ShowsMonthOfAll, ShowsReading, entered_told, imported_told}
 use Rattle.tacho_desk.specs.Told.{Added, Answer, File, Line, Long, Told}
 use Rattle.tacho_desk.specs.declared.fault.Fault.{Fault}
 use Rattle.tacho_desk.specs.declared.task.Task.TheVariants as task
@@ -105,6 +106,7 @@ refusals (task.Reading n text) input s f after h = reading_stays text n s (Err f
 refusals (task.MonthReading n month text) input s f after h = month_stays text month n s (Err f) after h
 refusals (task.File n number) input s f after h = h.1
 refusals task.Drivers input s f after h = h.1
+refusals (task.Driver n) input s f after h = h.1
 refusals task.Version input s f after h = h.1
 refusals (task.MonthOfAll month text) input s f after h = all_stays text month s (Err f) after h
 
@@ -265,6 +267,8 @@ same_answers n (task.MonthReading m month text) theirs input s other e answer af
     at_number n m theirs s other (ShowsMonth text month m) answer after (λ same. month_same text month m s other same answer after h) e
 same_answers n (task.File m number) theirs input s other e answer after h =
     at_number n m theirs s other (ShowsFile m number) answer after (λ same. lists_same _ _ m s other same answer after h) e
+same_answers n (task.Driver m) theirs input s other e answer after h =
+    at_number n m theirs s other (ShowsDriver m) answer after (λ same. lists_same _ _ m s other same answer after h) e
 same_answers n task.Version theirs input s other e answer after h = (other, (h.0, refl), ap (driver_of n) h.1 ∙ e)
 same_answers n task.Register theirs input s other e answer after h = absurd theirs
 same_answers n (task.Enter m) theirs input s other e answer after h = absurd theirs
@@ -283,6 +287,7 @@ others_stay n (task.Reading k text) theirs input s answer after h m other = ap (
 others_stay n (task.MonthReading k month text) theirs input s answer after h m other =
     ap (driver_of m) (month_stays text month k s answer after h)
 others_stay n (task.File k number) theirs input s answer after h m other = ap (driver_of m) h.1
+others_stay n (task.Driver k) theirs input s answer after h m other = ap (driver_of m) h.1
 others_stay n task.Version theirs input s answer after h m other = ap (driver_of m) h.1
 others_stay n task.Register theirs input s answer after h m other = absurd theirs
 others_stay n (task.Enter k) theirs input s answer after h m other = absurd theirs
@@ -410,6 +415,7 @@ module _ (one_content : (p : Part) (bytes : List ℕ) (a b : Result Content Card
   one_answer n (task.Reading m text) theirs input s a b after left h k = one_reading text m s a b after left h k
   one_answer n (task.MonthReading m month text) theirs input s a b after left h k = one_month text month m s a b after left h k
   one_answer n (task.File m number) theirs input s a b after left h k = one_listed _ s (file_reading m number s) a b after left h k
+  one_answer n (task.Driver m) theirs input s a b after left h k = one_listed _ s (driver_reading m s) a b after left h k
   one_answer n task.Version theirs input s a b after left h k = (h.0 ∙ sym k.0, h.1 ∙ sym k.1)
   one_answer n task.Register theirs input s a b after left h k = absurd theirs
   one_answer n (task.Enter m) theirs input s a b after left h k = absurd theirs

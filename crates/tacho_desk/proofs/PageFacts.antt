@@ -31,7 +31,7 @@ pub commands : map is_command all_wants
 commands = refl
 
 -- whether each is a driver's own
-pub own : map is_own all_wants ≡ false ∷ true ∷ false ∷ false ∷ false ∷ false ∷ true ∷ true ∷ true ∷ true ∷ true ∷ true ∷ true ∷ false ∷ []
+pub own : map is_own all_wants ≡ false ∷ true ∷ false ∷ false ∷ false ∷ false ∷ true ∷ true ∷ true ∷ true ∷ true ∷ true ∷ true ∷ true ∷ []
 own = refl
 
 -- ---- arguments

@@ -1,5 +1,5 @@
 -- Arguments make one task, or have one first fault.
-use Rattle.std.proofs.Common.{◌≡◌, ◌∙◌, ℕ, ◌≤◌, List, Ok, arith, inl, inr, sym, subst}
+use Rattle.std.proofs.Common.{◌≡◌, ◌∙◌, ℕ, ◌≤◌, List, [], ◌∷◌, Ok, arith, inl, inr, sym, subst}
 use Rattle.std.proofs.lemmas.Fmt.{decimal_injective}
 use Rattle.tacho_time.specs.Reading.{day_at, month_at}
 use Rattle.tacho_state.specs.declared.caller.Caller.{Caller}
@@ -46,6 +46,10 @@ driver_once c word Is each a b (inr x) (inl y) = absurd (no_driver c word x.0 y.
 driver_once c word Is each a b (inr x) (inr y) =
     each y.0 a b (subst (λ (n : ℕ). Is n a) (one_driver c word x.0 y.0 x.1 y.1) x.2) y.2
 
+one_listed : (c : Caller) (driver : List ℕ) (a b : Wanted) → ByDriver c driver (λ n w. w ≡ Ok (task.Driver n)) a
+    → ByDriver c driver (λ n w. w ≡ Ok (task.Driver n)) b → a ≡ b
+one_listed c driver a b x y = driver_once c driver (λ n w. w ≡ Ok (task.Driver n)) (λ n a b i j. i ∙ sym j) a b x y
+
 pub task_once : (w : Want) (c : Caller) (driver word : List ℕ) (a b : Wanted) → IsTask w c driver word a → IsTask w c driver word b → a ≡ b
 task_once want.Register c driver word a b x y = x ∙ sym y
 task_once want.Import c driver word a b x y = x ∙ sym y
@@ -63,6 +67,8 @@ task_once (want.MonthReading text) c driver word a b x y =
 task_once want.File c driver word a b x y =
     driver_once c driver (λ n. ByNumber most_number word (λ k w. w ≡ Ok (task.File n k)))
     (λ n. number_once word (λ k w. w ≡ Ok (task.File n k)) (λ k a b i j. i ∙ sym j)) a b x y
-task_once want.Drivers c driver word a b x y = x ∙ sym y
+task_once want.Drivers caller.Office [] word a b x y = x ∙ sym y
+task_once want.Drivers caller.Office (digit ∷ driver) word a b x y = one_listed caller.Office (digit ∷ driver) a b x y
+task_once want.Drivers (caller.Driver n) driver word a b x y = one_listed (caller.Driver n) driver a b x y
 task_once want.Version c driver word a b x y = x ∙ sym y
 task_once (want.MonthOfAll text) c driver word a b x y = x ∙ sym y

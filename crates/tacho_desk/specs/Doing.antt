@@ -65,6 +65,24 @@ CrashMayLeave leaves past Does (Ok told) = leaves past ⊎ ((after : State) × D
 CrashMayLeave leaves past Does (Err f) =
     leaves past ⊎ (IsFailure f × ((answer : Answer) × (after : State) × Does answer after × leaves (after ∷ past)))
 
+-- a state, and the states of which a crash may leave one
+pub record Kept : Type 0 where
+  pub state : State
+  pub past : List State
+
+-- the answer, and the state after it: on success as the task requires; on a fault the state before, and the fault is one that the task
+-- allows, or memory ran out, or the store failed
+abbrev pub Takes : Doing → State → Answer → State → Type 0
+Takes Does s (Ok told) after = Does (Ok told) after
+Takes Does s (Err f) after = (after ≡ s) × (Does (Err f) s ⊎ IsFailure f)
+
+-- the states of which a crash may leave one after the answer: on success the state after it alone; on a fault those from before, and if
+-- memory ran out or the store failed, also the state after some answer that the task allows
+abbrev pub LeavesAfter : Doing → Answer → State → List State → List State → Type 0
+LeavesAfter Does (Ok told) after past future = future ≡ after ∷ []
+LeavesAfter Does (Err f) after past future =
+    (future ≡ past) ⊎ (IsFailure f × ((answer : Answer) × (other : State) × Does answer other × (future ≡ other ∷ past)))
+
 -- the call is a reading, or it is refused, and so changes nothing
 abbrev pub ChangesNothing : Bool → Answer → Type 0
 ChangesNothing false answer = Unit {0}

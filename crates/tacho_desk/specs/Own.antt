@@ -14,6 +14,7 @@ IsHis n (task.Import (caller.Driver m) part) = m ≡ n
 IsHis n (task.Reading m text) = m ≡ n
 IsHis n (task.MonthReading m month text) = m ≡ n
 IsHis n (task.File m number) = m ≡ n
+IsHis n (task.Driver m) = m ≡ n
 IsHis n task.Version = Unit {0}
 IsHis n t = ⊥
 

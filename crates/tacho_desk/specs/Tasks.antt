@@ -15,7 +15,7 @@ use Rattle.tacho_state.specs.Files.{files_reading}
 use Rattle.tacho_state.specs.Registration.{Registration}
 use Rattle.tacho_state.specs.State.{Driver, State, driver_of, held_spans}
 use Rattle.tacho_state.specs.Steps.{Content, register_step, import_step, enter_step, withdraw_step, rebase_step, rekey_step, entries_reading, file_reading}
-use Rattle.tacho_state.specs.Summaries.{AreSummaries, Summary}
+use Rattle.tacho_state.specs.Summaries.{AreSummaries, Summary, driver_reading}
 use Rattle.tacho_state.specs.declared.caller.Caller.{Caller}
 use Rattle.tacho_state.specs.declared.entry.EntryLine.{EntryLine}
 use Rattle.tacho_state.specs.declared.fault.StoreFault.TheVariants as store
@@ -143,6 +143,10 @@ abbrev pub ShowsDrivers : State → Doing
 ShowsDrivers s answer after =
     IsText (λ text. (summaries : List Summary) × AreSummaries s summaries × (text ≡ flat_map summary_line summaries)) answer × (after ≡ s)
 
+-- what is listed of one driver
+abbrev pub ShowsDriver : ℕ → State → Doing
+ShowsDriver n s = Lists (λ d. Long (summary_line d)) s (driver_reading n s)
+
 -- the version of the program
 abbrev pub ShowsVersion : State → Doing
 ShowsVersion s = Lists Long s (Ok version_text)
@@ -181,6 +185,7 @@ want_of (task.Reading n text) = want.Reading text
 want_of (task.MonthReading n m text) = want.MonthReading text
 want_of (task.File n number) = want.File
 want_of task.Drivers = want.Drivers
+want_of (task.Driver n) = want.Drivers
 want_of task.Version = want.Version
 want_of (task.MonthOfAll m text) = want.MonthOfAll text
 
@@ -196,6 +201,7 @@ Does (task.Reading n text) input s = ShowsReading text n s
 Does (task.MonthReading n m text) input s = ShowsMonth text m n s
 Does (task.File n number) input s = ShowsFile n number s
 Does task.Drivers input s = ShowsDrivers s
+Does (task.Driver n) input s = ShowsDriver n s
 Does task.Version input s = ShowsVersion s
 Does (task.MonthOfAll m text) input s = ShowsMonthOfAll text m s
 

@@ -1,7 +1,7 @@
 -- Trusted: The kinds of tasks at an archive: which have an input, which change the archive, and which are a driver's own.
 use Rattle.std.specs.Prelude.{Bool, true, false}
 use Rattle.tacho_desk.specs.declared.want.Want.{Want}
-use Rattle.tacho_desk.specs.declared.want.Want.TheVariants.{Base, Enter, File, Import, Key, MonthReading, Reading, Register, Version, Withdraw}
+use Rattle.tacho_desk.specs.declared.want.Want.TheVariants.{Base, Drivers, Enter, File, Import, Key, MonthReading, Reading, Register, Version, Withdraw}
 
 -- the task has an input: a text of CSV, a card file or a key
 abbrev pub takes_input : Want → Bool
@@ -21,11 +21,12 @@ is_command Base = true
 is_command Key = true
 is_command want = false
 
--- a driver's own tasks are the import of their card, readings about them, and the version
+-- a driver's own tasks are the import of their card, readings about them, what is listed of them, and the version
 abbrev pub is_own : Want → Bool
 is_own Import = true
 is_own (Reading text) = true
 is_own (MonthReading text) = true
 is_own File = true
+is_own Drivers = true
 is_own Version = true
 is_own want = false

@@ -1,5 +1,5 @@
 -- Trusted: The arguments of a task: numbers, dates, months and parts, as they are on a command line or in a path.
-use Rattle.std.specs.Prelude.{◌≡◌, ◌⊎◌, ℕ, List, Option, Some, None, Result, Ok, Err, bytes_eq, codes, if◌then◌else◌}
+use Rattle.std.specs.Prelude.{◌≡◌, ◌⊎◌, ℕ, List, [], Option, Some, None, Result, Ok, Err, bytes_eq, codes, if◌then◌else◌}
 use Rattle.tacho_time.specs.Reading.{day_at, month_at}
 use Rattle.tacho_time.specs.declared.fault.TimeFault.{TimeFault}
 use Rattle.tacho_card.specs.declared.file.Part.{Part}
@@ -64,6 +64,11 @@ abbrev pub ByDriver : Caller → List ℕ → (ℕ → Wanted → Type 0) → Wa
 ByDriver c word Is wanted =
     (HasNoDriver c word × (wanted ≡ Err (fault.Told told.Number))) ⊎ ((n : ℕ) × IsDriver c word n × Is n wanted)
 
+-- the list of all drivers, if the office names none; otherwise what is listed of one driver
+abbrev pub IsDriversTask : Caller → List ℕ → Wanted → Type 0
+IsDriversTask caller.Office [] wanted = wanted ≡ Ok task.Drivers
+IsDriversTask c driver wanted = ByDriver c driver (λ n w. w ≡ Ok (task.Driver n)) wanted
+
 -- the task that the arguments make for a caller, read from left to right, or the fault of the first bad argument
 abbrev pub IsTask : Want → Caller → List ℕ → List ℕ → Wanted → Type 0
 IsTask want.Register c driver word wanted = wanted ≡ Ok task.Register
@@ -78,6 +83,6 @@ IsTask (want.MonthReading text) c driver word wanted =
     ByDriver c driver (λ n w. w ≡ by_time (month_at word) (λ month. Ok (task.MonthReading n month text))) wanted
 IsTask want.File c driver word wanted =
     ByDriver c driver (λ n. ByNumber most_number word (λ k w. w ≡ Ok (task.File n k))) wanted
-IsTask want.Drivers c driver word wanted = wanted ≡ Ok task.Drivers
+IsTask want.Drivers c driver word wanted = IsDriversTask c driver wanted
 IsTask want.Version c driver word wanted = wanted ≡ Ok task.Version
 IsTask (want.MonthOfAll text) c driver word wanted = wanted ≡ by_time (month_at word) (λ month. Ok (task.MonthOfAll month text))

@@ -2,7 +2,7 @@
 
 ghost use Rattle.std.specs.Prelude.{false};
 ghost use Rattle.tacho_desk.specs.Doing.{IsOfArchive, Serves};
-ghost use Rattle.tacho_desk.specs.Tasks.{ShowsDrivers, ShowsFile, ShowsMonth, ShowsReading, ShowsVersion};
+ghost use Rattle.tacho_desk.specs.Tasks.{ShowsDriver, ShowsDrivers, ShowsFile, ShowsMonth, ShowsReading, ShowsVersion};
 ghost use Rattle.tacho_desk.specs.Told.{answer_of};
 ghost use Rattle.tacho_desk.specs.declared.want.MonthReading.TheVariants as of_month;
 ghost use Rattle.tacho_desk.specs.declared.want.Reading.TheVariants as reading;
@@ -12,6 +12,7 @@ use crate::release::version_text;
 use crate::text::Text;
 use crate::want::{MonthReading, Reading};
 use std::alloc::Global;
+use std::slice;
 use tacho_sheet::{
     breach_text, debt_text, driver_text, entry_text, file_text, form_text, gap_text, month_chart,
     month_sheet, owed_text, span_csv, stretch_text, why_text,
@@ -219,6 +220,15 @@ pub(crate) fn version<K: Keeper>(keeper: &mut K) -> Result<Text, Fault>
 {
     keeper.who(&[])?;
     Ok(Text::Fixed(version_text()))
+}
+
+/// Writes what is listed of a driver.
+pub(crate) fn driver<K: Keeper>(alloc: Global, keeper: &mut K, driver: u32) -> Result<Text, Fault>
+    ensures serves { Serves K.stands K.is_clean K.is_live K.leaves K.is_same keeper.old keeper.new false (answer_of result) (ShowsDriver driver) }
+    ensures archive { IsOfArchive (answer_of result) }
+{
+    let found = keeper.driver(alloc, driver)?;
+    Ok(Text::Long(driver_text(alloc, slice::from_ref(&found))?))
 }
 
 /// Writes the list of all drivers.

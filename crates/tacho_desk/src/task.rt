@@ -64,6 +64,10 @@ pub enum Task {
     },
     /// Lists all drivers.
     Drivers,
+    /// Reads what is listed of one driver.
+    Driver {
+        driver: u32,
+    },
     /// Reads the version of the program.
     Version,
 }
@@ -97,6 +101,7 @@ pub fn carry_out<K: Keeper>(
         Task::MonthOfAll { month, reading } => all::show_month(alloc, keeper, month, reading),
         Task::File { driver, number } => readings::file(alloc, keeper, driver, number),
         Task::Drivers => readings::drivers(alloc, keeper),
+        Task::Driver { driver } => readings::driver(alloc, keeper, driver),
         Task::Version => readings::version(keeper),
     }
 }

@@ -21,7 +21,7 @@ pub enum Want {
     MonthOfAll(MonthOfAll),
     /// Read a card file of the archive.
     File,
-    /// List all drivers.
+    /// List all drivers, or one of them.
     Drivers,
     /// Read the version of the program.
     Version,

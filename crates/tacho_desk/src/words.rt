@@ -3,7 +3,7 @@ ghost use Rattle.tacho_desk.specs.Tasks.{want_of};
 ghost use Rattle.tacho_desk.specs.declared.task.Task.TheVariants as task;
 ghost use Rattle.tacho_sheet.specs.declared.fault.Fault.TheVariants as told;
 ghost use Rattle.tacho_sheet.specs.Number.{HasNoNumber, IsNumberText};
-ghost use Rattle.tacho_desk.specs.Words.{HasNoDriver, IsDriver, IsTask, by_part, most_number, part_of as part_named};
+ghost use Rattle.tacho_desk.specs.Words.{HasNoDriver, IsDriver, IsDriversTask, IsTask, by_part, most_number, part_of as part_named};
 
 use crate::base::BaseDay;
 use crate::fault::Fault;
@@ -69,6 +69,20 @@ fn import_of(caller: Caller, word: &[u8]) -> Result<Task, Fault>
     }
 }
 
+/// The list of all drivers, if the office names none. Otherwise what is listed of one driver.
+fn drivers_of(caller: Caller, word: &[u8]) -> Result<Task, Fault>
+    ensures task { IsDriversTask caller word.now result }
+    ensures want { IfOk result (λ task. want_of task ≡ Want.Drivers) }
+{
+    if matches!(caller, Caller::Office) && word.is_empty() {
+        return Ok(Task::Drivers);
+    }
+    match driver_of(caller, word) {
+        Ok(driver) => Ok(Task::Driver { driver }),
+        Err(fault) => Err(fault),
+    }
+}
+
 /// Makes the task that a caller asks for from its arguments, read from left to right. The first is the driver's number (N1), which only the
 /// office gives. The other is a part (P1), the number of an entry or a download (N1), a day or a month (Z1 to Z3), or is ignored.
 pub fn task_of(want: Want, caller: Caller, driver: &[u8], word: &[u8]) -> Result<Task, Fault>
@@ -116,7 +130,7 @@ pub fn task_of(want: Want, caller: Caller, driver: &[u8], word: &[u8]) -> Result
             (Ok(driver), Ok(number)) => Ok(Task::File { driver, number }),
             (Err(fault), _) | (_, Err(fault)) => Err(fault),
         },
-        Want::Drivers => Ok(Task::Drivers),
+        Want::Drivers => drivers_of(caller, driver),
         Want::Version => Ok(Task::Version),
         Want::MonthOfAll(reading) => {
             let month = Month::read(word)?;

@@ -149,7 +149,8 @@ task_is_own want.Enter n driver word t own is = cc
 task_is_own want.Withdraw n driver word t own is = cc
 task_is_own want.Base n driver word t own is = cc
 task_is_own want.Key n driver word t own is = cc
-task_is_own want.Drivers n driver word t own is = cc
+task_is_own want.Drivers n driver word t own is =
+    about_him n driver (λ m w. w ≡ Ok (task.Driver m)) t (λ m same e. plain_is_own n t (task.Driver m) same e) is
 task_is_own want.Version n driver word t own is = plain_is_own n t task.Version tt is
 task_is_own (want.MonthOfAll text) n driver word t own is = cc
 
@@ -182,6 +183,7 @@ own_unreserved office n (task.MonthReading m month text) body theirs r = r
 own_unreserved office n (task.MonthOfAll month text) body theirs r = r
 own_unreserved office n (task.File m number) body theirs r = r
 own_unreserved office n task.Drivers body theirs r = r
+own_unreserved office n (task.Driver m) body theirs r = r
 own_unreserved office n task.Version body theirs r = r
 
 -- ---- isolation

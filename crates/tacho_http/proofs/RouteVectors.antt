@@ -25,6 +25,8 @@ nothing path = (path, None)
 abbrev by_get : List Vector
 by_get =
     names (codes "/drivers") Office Drivers [] (codes "drivers")
+    ∷ names (codes "/drivers/17") Office Drivers (codes "17") (codes "17")
+    ∷ names (codes "/me/driver") Driver Drivers (codes "r") (codes "driver")
     ∷ names (codes "/drivers/17/entries") Office (Reading Entries) (codes "17") (codes "entries")
     ∷ names (codes "/drivers/17/spans/2024-03") Office (MonthReading Spans) (codes "17") (codes "2024-03")
     ∷ names (codes "/drivers/17/gaps/2024-03") Office (MonthReading Gaps) (codes "17") (codes "2024-03")

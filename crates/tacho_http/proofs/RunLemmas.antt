@@ -7,7 +7,8 @@ use Rattle.std.specs.Prelude.{◌↔◌, IsErrOf, MatchResult, is_ok}
 use Rattle.tacho_state.specs.State.{State}
 use Rattle.tacho_http.specs.Answer.{Exchanged, IsReplied, Settles, CrashMayLeaveReply, CrashMayLeaveServed, is_done}
 use Rattle.tacho_http.specs.Reply.{Reply}
-use Rattle.tacho_http.specs.Run.{Ended, Kept, Leaves, Run, Went, WentKept}
+use Rattle.tacho_desk.specs.Doing.{Kept}
+use Rattle.tacho_http.specs.Run.{Ended, Leaves, Run, Went, WentKept}
 use Rattle.tacho_http.specs.Serve.{Reacts}
 use Rattle.tacho_http.specs.declared.exchange.IoFault.{IoFault}
 use Rattle.tacho_http.specs.declared.exchange.IoFault.TheVariants as io

@@ -1,5 +1,5 @@
 -- Private to tacho_http: What the requests for a command offer, by the table of commands.
-use Rattle.std.specs.Prelude.{ℕ, List, [], ◌∷◌, ◌++◌, Bool, true, false, Option, Some, None, if◌then◌else◌, flat_map}
+use Rattle.std.specs.Prelude.{ℕ, List, [], Bool, true, false, Option, Some, None, bytes_eq, codes, if◌then◌else◌, flat_map, map, take}
 use Rattle.tacho_desk.specs.Commands.{Row}
 use Rattle.tacho_desk.specs.Wants.{is_command}
 use Rattle.tacho_desk.specs.declared.table.Act.{Act}
@@ -7,13 +7,15 @@ use Rattle.tacho_desk.specs.declared.want.Want.{Want}
 use Rattle.tacho_desk.specs.declared.want.Want.TheVariants as want
 use Rattle.tacho_desk.specs.declared.table.Act.TheVariants.{AtDesk, Version}
 use Rattle.tacho_http.specs.Routes.{Offer}
+use Rattle.tacho_http.specs.declared.places.Asker.{Asker}
 use Rattle.tacho_http.specs.declared.places.Asker.TheVariants.{Driver, Office}
-use Rattle.tacho_http.specs.declared.places.Place.{Place}
 
--- an offer at a path that isn't empty
-abbrev pub offer_at : List ℕ → Place → List Offer
-offer_at [] place = []
-offer_at (x ∷ path) place = (x ∷ path, place) ∷ []
+-- the paths of a driver's requests begin with `/me/`, the others are the office's
+abbrev pub asker_of_path : List ℕ → Asker
+asker_of_path path = if bytes_eq (codes "/me/") (take 4 path) then Driver else Office
+
+abbrev pub offer_at : Want → List ℕ → Offer
+offer_at w path = (path, record { asker = asker_of_path path; want = w })
 
 -- either is true and the other isn't
 abbrev pub differ : Bool → Bool → Bool
@@ -27,14 +29,12 @@ want_of Version = Some want.Version
 want_of other = None
 
 -- those of a command, if they are posted or if they aren't
-abbrev pub offers_by : Bool → Option Want → List ℕ → List ℕ → List Offer
-offers_by posted None office driver = []
-offers_by posted (Some w) office driver =
-    if differ (is_command w) posted then []
-    else offer_at office (record { asker = Office; want = w }) ++ offer_at driver (record { asker = Driver; want = w })
+abbrev pub offers_by : Bool → Option Want → List (List ℕ) → List Offer
+offers_by posted None paths = []
+offers_by posted (Some w) paths = if differ (is_command w) posted then [] else map (offer_at w) paths
 
 abbrev pub offers_of : Bool → Row → List Offer
-offers_of posted row = offers_by posted (want_of row.act) row.office row.driver
+offers_of posted row = offers_by posted (want_of row.act) row.paths
 
 -- those of a table
 abbrev pub offers_in : Bool → List Row → List Offer

@@ -53,6 +53,7 @@ route_table =
 abbrev pub office_table : List TableRow
 office_table =
     table_row (codes "/drivers") Office (Some Drivers) None
+    ∷ table_row (codes "/drivers/{driver}") Office (Some Drivers) None
     ∷ table_row (codes "/drivers/{driver}/stretches") Office (Some (Reading Stretches)) None
     ∷ table_row (codes "/drivers/{driver}/debts") Office (Some (Reading Debts)) None
     ∷ table_row (codes "/drivers/{driver}/files") Office (Some (Reading Files)) None
@@ -75,6 +76,7 @@ driver_table =
     ∷ table_row (codes "/me/why/{word}") Driver (Some (MonthReading Why)) None
     ∷ table_row (codes "/me/chart/{word}") Driver (Some (MonthReading Chart)) None
     ∷ table_row (codes "/me/version") Driver (Some Version) None
+    ∷ table_row (codes "/me/driver") Driver (Some Drivers) None
     ∷ []
 
 -- all paths; no other path is answered

@@ -2,6 +2,7 @@
 use Rattle.std.specs.Prelude.{◌≡◌, ◌⊎◌, ◌+◌, ℕ, List, [], ◌∷◌, Bool, Option, IfSome, false, true}
 use Rattle.tacho_message.specs.declared.reply.Status.TheVariants as status
 use Rattle.tacho_state.specs.State.{State}
+use Rattle.tacho_desk.specs.Doing.{Kept}
 use Rattle.tacho_http.specs.Answer.{IsBegun, IsPosted, IsWritten, is_done}
 use Rattle.tacho_http.specs.Reply.{Reply, reply_of_status}
 use Rattle.tacho_http.specs.Serve.{Reacts}
@@ -20,11 +21,6 @@ pub record Went (office : List ℕ) (unread old new : Option (List ℕ)) (reader
   pub input : List ℕ
   pub told : IfSome unread (λ all. input ≡ all)
   pub ended : Ended old new (λ reply. Reacts office input s reply t) (t ≡ s) reader_failed writer_failed count
-
--- a state, and the states of which a crash may leave one
-pub record Kept : Type 0 where
-  pub state : State
-  pub past : List State
 
 -- the states that a crash may leave after a reply: those from before, or also the state after the reply, or, after 503, the state after
 -- some other reply; after a command that was done, only the state after it

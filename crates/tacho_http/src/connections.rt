@@ -2,7 +2,8 @@
 
 ghost use Rattle.std.specs.Prelude.{◌≡◌, false, All};
 ghost use Rattle.tacho_state.specs.State.{State};
-ghost use Rattle.tacho_http.specs.Run.{Kept, Run, Went, WentKept};
+ghost use Rattle.tacho_desk.specs.Doing.{Kept};
+ghost use Rattle.tacho_http.specs.Run.{Run, Went, WentKept};
 
 use crate::exchange::answer_by;
 use crate::places::Routes;

@@ -1,9 +1,9 @@
 //! What paths offer. The routes come from the table of commands.
 
-ghost use Rattle.std.specs.Prelude.{◌≡◌, IfOk, OnOk, [], map, option_map};
+ghost use Rattle.std.specs.Prelude.{◌≡◌, ◌∷◌, IfOk, OnOk, [], map, option_map};
 ghost use Rattle.tacho_message.specs.declared.method.Method.TheVariants.{Get, Post};
 ghost use Rattle.tacho_desk.specs.Commands.{row_of};
-ghost use Rattle.tacho_http.specs.Offers.{offer_at, offers_in, offers_of, want_of as want_at};
+ghost use Rattle.tacho_http.specs.Offers.{asker_of_path, offer_at, offers_in, offers_of, want_of as want_at};
 ghost use Rattle.tacho_http.specs.Routes.{driver_part, last_part, named_in, named_found, routes, with_offers};
 
 use matchit::{InsertError, Router};
@@ -31,14 +31,33 @@ pub(crate) struct Place {
     pub want: Want,
 }
 
-/// Adds a path to a router, unless it is empty.
-fn add(router: &mut Router<Place>, path: &str, place: Place) -> Result<(), InsertError>
-    ensures { OnOk result (router.new ≡ with_offers router.old (offer_at path.now place)) }
+/// Who asks at a path: a driver if it begins with `/me/`, otherwise the office.
+fn asker_at(path: &str) -> Asker
+    ensures { result ≡ asker_of_path path.now }
 {
-    if path.is_empty() {
-        return Ok(());
+    if path.as_bytes().starts_with(b"/me/") {
+        Asker::Driver
+    } else {
+        Asker::Office
     }
-    router.insert(path, place)
+}
+
+/// Adds a path at which something is asked for.
+fn add(router: &mut Router<Place>, path: &str, want: Want) -> Result<(), InsertError>
+    ensures { OnOk result (router.new ≡ with_offers router.old (offer_at want path.now ∷ [])) }
+{
+    let asker = asker_at(path);
+    router.insert(path, Place { asker, want })
+}
+
+/// Adds the paths at which something is asked for.
+fn add_paths(router: &mut Router<Place>, paths: &[&str], want: Want) -> Result<(), InsertError>
+    ensures { OnOk result (router.new ≡ with_offers router.old (map (offer_at want) (map (λ path. path.now) paths.now))) }
+{
+    for path in paths {
+        add(router, path, want)?;
+    }
+    Ok(())
 }
 
 /// What is asked for by a request for what a command does.
@@ -73,22 +92,7 @@ fn add_command(
     if want.changes() != posted {
         return Ok(());
     }
-    add(
-        router,
-        command.office,
-        Place {
-            asker: Asker::Office,
-            want,
-        },
-    )?;
-    add(
-        router,
-        command.driver,
-        Place {
-            asker: Asker::Driver,
-            want,
-        },
-    )
+    add_paths(router, command.paths, want)
 }
 
 /// Makes a router of the paths of a table's commands, those that are posted or those that aren't.

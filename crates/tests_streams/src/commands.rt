@@ -3,7 +3,9 @@ use crate::same::assert_same;
 use std::alloc::{AllocError, Global};
 use std::process::Abort;
 use std::test::Fail;
-use tacho_cli::{DeskJob, Job, Usage, card, dump, holder, parse};
+use tacho_cli::{
+    Asked, DeskJob, Job, Usage, asked_early, card, dump, help_of, help_text, holder, parse,
+};
 use tacho_desk::{MonthOfAll, MonthReading, Reading, Want};
 use tacho_time::{Device, Source};
 
@@ -388,6 +390,15 @@ static JOBS: [(&[&str], Job<'static>); 31] = [
         }),
     ),
     (
+        &["tacho", "drivers", "a.db", "17"],
+        Job::AtDesk(DeskJob {
+            archive: "a.db",
+            want: Want::Drivers,
+            driver: "17",
+            word: "",
+        }),
+    ),
+    (
         &["tacho", "stretches", "a.db", "17"],
         Job::AtDesk(DeskJob {
             archive: "a.db",
@@ -532,140 +543,119 @@ fn ports_and_counts_are_numbers(rt: HostRuntime) -> Result<(), Fail> {
 const HELP: &str = "\
 Archives the hours that driver cards record, and checks them against the rules on driving and rest
 
-Usage: tacho <COMMAND>
+Usage: tacho COMMAND [ARGUMENT...]
 
 Commands:
-  dump       Prints the spans in the value of an EF Driver_Activity_Data (0504), one per line: tacho dump < FILE
-  holder     Prints the holder in a card file, as 30 hexadecimal digits: tacho holder < FILE
-  card       Prints the spans in a card file, one per line: tacho card PART < FILE
+  dump       Prints the spans in the value of an EF Driver_Activity_Data (0504), one per line
+  holder     Prints the holder in a card file, as 30 hexadecimal digits
+  card       Prints the spans in a card file, one per line
   init       Creates an archive without drivers, in a new or empty file
   migrate    Converts an archive of an earlier schema to this program's; make a backup first
   check      Checks all rows of an archive: prints sound, or unsound with the first driver and table whose rows can't be right
-  register   Adds a driver: tacho register ARCHIVE < CSV with the head driver,holder,key,base,name
-  import     Adds a driver's card file: tacho import ARCHIVE PART < FILE
-  enter      Enters a driver's hours by hand: tacho enter ARCHIVE DRIVER < CSV with the head start,past,activity or start,past,activity,author,note
+  register   Adds a driver: CSV with the head driver,holder,key,base,name
+  import     Adds a driver's card file
+  enter      Enters a driver's hours by hand: CSV with the head start,past,activity or start,past,activity,author,note
   withdraw   Withdraws an entry, which stays listed and gives no more hours
   base       Sets the Monday from which a driver's hours are examined
-  key        Sets a driver's key: tacho key ARCHIVE DRIVER < FILE, where FILE has the key as its only line
+  key        Sets a driver's key, the only line of its input
   spans      Prints the spans of a driver's month as CSV
   gaps       Prints the gaps in a driver's month, for which the archive has no hours
   sheet      Prints the sheet of a driver's month, with its totals and breaches
-  chart      Draws a driver's month as SVG, with a row for each day, and the breaches: tacho chart ARCHIVE DRIVER MONTH > month.svg
+  chart      Draws a driver's month as SVG, with a row for each day, and the breaches
   breaches   Prints a driver's breaches up to the end of the first examination
   why        Prints the breaches of a driver's month, each with the evidence for it
   owed       Prints the rest that a driver owes or has paid, up to the end of the first examination
   entries    Prints a driver's entries, also those withdrawn
   file       Prints a card file as it was imported
   files      Prints a driver's card files, one per line: number, part, length in bytes, first minute, past, and SHA-256
-  drivers    Prints the drivers, one per line: number, holder, base, how many card files and entries, and name
+  drivers    Prints the drivers, or one of them, one per line: number, holder, base, how many card files and entries, and name
   stretches  Prints a driver's breaches by all examinations, and what isn't examined
   debts      Prints the rest that a driver owes or has paid, by all examinations
   overview   Prints a month of all drivers as CSV: what is held, how much of it is examined, and how many breaches there are of each rule
   incidents  Prints the breaches of a month of all drivers as CSV
   form       Prints a driver's gaps as CSV, to fill in and enter
   serve      Answers COUNT connections on PORT of 127.0.0.1, one request each: the office's with KEY, drivers' with their own keys
-  listen     Does the same as serve, with the office's key from its input: tacho listen ARCHIVE PORT COUNT < FILE, where FILE has the key as its only line
-  version    Prints the version of this program, the schema of the archives that it makes, and the kit that has proved it
-  help       Print this message or the help of the given subcommand(s)
-
-Options:
-  -h, --help  Print help
+  listen     Does the same as serve, with the office's key as the only line of its input
+  version    Prints the version of this program, the schema of the archives that it makes, and the logic in which it is proved
+  help       Prints these commands, or with the name of a command how it is used
 ";
 
 const HELP_OF_DUMP: &str = "\
-Prints the spans in the value of an EF Driver_Activity_Data (0504), one per line: tacho dump < FILE
+Prints the spans in the value of an EF Driver_Activity_Data (0504), one per line
 
-Usage: tacho dump
-
-Options:
-  -h, --help  Print help
+Usage: tacho dump < FILE
 ";
 
-const HELP_OF_HOLDER: &str = "\
-Prints the holder in a card file, as 30 hexadecimal digits: tacho holder < FILE
+const HELP_OF_IMPORT: &str = "\
+Adds a driver's card file
 
-Usage: tacho holder
-
-Options:
-  -h, --help  Print help
-";
-
-const HELP_OF_BASE: &str = "\
-Sets the Monday from which a driver's hours are examined
-
-Usage: tacho base <archive> <driver> <date>
+Usage: tacho import ARCHIVE PART < FILE
+       tacho import ARCHIVE PART FILE...
 
 Arguments:
-  <archive>  The path of the archive
-  <driver>   The driver's number, 1 to 999999
-  <date>     A Monday, as 2024-03-04
-
-Options:
-  -h, --help  Print help
+  ARCHIVE   The path of the archive
+  PART      The blocks of the card file that are read: first (first generation), second (second generation), or both
 ";
 
-const HELP_OF_OVERVIEW: &str = "\
-Prints a month of all drivers as CSV: what is held, how much of it is examined, and how many breaches there are of each rule
+const HELP_OF_DRIVERS: &str = "\
+Prints the drivers, or one of them, one per line: number, holder, base, how many card files and entries, and name
 
-Usage: tacho overview <archive> <month>
+Usage: tacho drivers ARCHIVE [DRIVER]
 
 Arguments:
-  <archive>  The path of the archive
-  <month>    A month, as 2024-03
-
-Options:
-  -h, --help  Print help
+  ARCHIVE   The path of the archive
+  [DRIVER]  The driver's number, 1 to 999999
 ";
 
-const NO_MONTH: &str = "\
-error: the following required arguments were not provided:
-  <month>
-
-Usage: tacho overview <archive> <month>
-
-For more information, try '--help'.
-";
-
-const A_DRIVER_MORE: &str = "\
-error: unexpected argument '2024-03' found
-
-Usage: tacho incidents <archive> <month>
-
-For more information, try '--help'.
-";
-
-const A_MONTH_MORE: &str = "\
-error: unexpected argument '2024-03' found
-
-Usage: tacho stretches <archive> <driver>
-
-For more information, try '--help'.
-";
-
-const NO_COMMAND: &str = "\
-error: 'tacho' requires a subcommand but one was not provided
-  [subcommands: dump, holder, card, init, migrate, check, register, import, enter, withdraw, base, key, spans, gaps, sheet, chart, breaches, why, owed, entries, file, files, drivers, stretches, debts, overview, incidents, form, serve, listen, version, help]
-
-Usage: tacho <COMMAND>
-
-For more information, try '--help'.
-";
-
-const OTHER_COMMAND: &str = "\
-error: unrecognized subcommand 'weigh'
-
-Usage: tacho <COMMAND>
-
-For more information, try '--help'.
-";
-
-const ONE_WORD_MORE: &str = "\
-error: unexpected argument 'more' found
-
-Usage: tacho dump
-
-For more information, try '--help'.
-";
+/// Arguments that name no job, and what is printed for them.
+const MISUSES: &[(&[&str], &str)] = &[
+    (
+        &["tacho"],
+        "tacho: no command was given
+usage: tacho COMMAND [ARGUMENT...]
+       tacho help lists the commands
+",
+    ),
+    (
+        &["tacho", "weigh"],
+        "tacho: unrecognized subcommand 'weigh'
+usage: tacho COMMAND [ARGUMENT...]
+       tacho help lists the commands
+",
+    ),
+    (
+        &["tacho", "overview", "a.db"],
+        "tacho: the following required arguments were not provided: <MONTH>
+usage: tacho overview ARCHIVE MONTH
+",
+    ),
+    (
+        &["tacho", "dump", "week.0504"],
+        "tacho: unexpected argument 'week.0504' found
+usage: tacho dump < FILE
+       FILE is read from standard input: put < before the name of a file
+",
+    ),
+    (
+        &["tacho", "enter", "a.db", "17", "hours.csv"],
+        "tacho: unexpected argument 'hours.csv' found
+usage: tacho enter ARCHIVE DRIVER < CSV
+       CSV is read from standard input: put < before the name of a file
+",
+    ),
+    (
+        &["tacho", "stretches", "a.db", "17", "2024-03"],
+        "tacho: unexpected argument '2024-03' found
+usage: tacho stretches ARCHIVE DRIVER
+",
+    ),
+    (
+        &["tacho", "incidents", "a.db", "17", "2024-03"],
+        "tacho: unexpected argument '2024-03' found
+usage: tacho incidents ARCHIVE MONTH
+",
+    ),
+];
 
 /// What is printed for arguments that name no job.
 fn told(rt: &impl Abort, alloc: Global, words: &[&str]) -> Result<String, AllocError> {
@@ -677,39 +667,67 @@ fn told(rt: &impl Abort, alloc: Global, words: &[&str]) -> Result<String, AllocE
 }
 
 #[test]
-fn other_words_tell_how_they_are_used(rt: HostRuntime) -> Result<(), Fail> {
+fn misuses_show_the_usage(rt: HostRuntime) -> Result<(), Fail> {
     let alloc = rt.alloc();
-    let help = told(&rt, alloc, &["tacho", "--help"])?;
-    assert_same(&rt, help.as_str(), HELP);
-    let help = told(&rt, alloc, &["tacho", "help"])?;
-    assert_same(&rt, help.as_str(), HELP);
-    let help_of_dump = told(&rt, alloc, &["tacho", "dump", "--help"])?;
-    assert_same(&rt, help_of_dump.as_str(), HELP_OF_DUMP);
-    let help_of_holder = told(&rt, alloc, &["tacho", "help", "holder"])?;
-    assert_same(&rt, help_of_holder.as_str(), HELP_OF_HOLDER);
-    let help_of_base = told(&rt, alloc, &["tacho", "help", "base"])?;
-    assert_same(&rt, help_of_base.as_str(), HELP_OF_BASE);
-    let no_command = told(&rt, alloc, &["tacho"])?;
-    assert_same(&rt, no_command.as_str(), NO_COMMAND);
-    let other_command = told(&rt, alloc, &["tacho", "weigh"])?;
-    assert_same(&rt, other_command.as_str(), OTHER_COMMAND);
-    let one_word_more = told(&rt, alloc, &["tacho", "dump", "more"])?;
-    assert_same(&rt, one_word_more.as_str(), ONE_WORD_MORE);
+    for &(words, text) in MISUSES {
+        let shown = told(&rt, alloc, words)?;
+        assert_same(&rt, shown.as_str(), text);
+    }
     Ok(())
 }
 
 #[test]
-fn readings_of_all_drivers_have_a_month_alone(rt: HostRuntime) -> Result<(), Fail> {
+fn help_lists_commands_and_arguments(rt: HostRuntime) -> Result<(), Fail> {
     let alloc = rt.alloc();
-    let help = told(&rt, alloc, &["tacho", "overview", "--help"])?;
-    assert_same(&rt, help.as_str(), HELP_OF_OVERVIEW);
-    let no_month = told(&rt, alloc, &["tacho", "overview", "a.db"])?;
-    assert_same(&rt, no_month.as_str(), NO_MONTH);
-    let words = ["tacho", "incidents", "a.db", "17", "2024-03"];
-    let a_driver_more = told(&rt, alloc, &words)?;
-    assert_same(&rt, a_driver_more.as_str(), A_DRIVER_MORE);
-    let words = ["tacho", "stretches", "a.db", "17", "2024-03"];
-    let a_month_more = told(&rt, alloc, &words)?;
-    assert_same(&rt, a_month_more.as_str(), A_MONTH_MORE);
+    assert_same(&rt, help_text(alloc)?.as_str(), HELP);
+    assert_same(&rt, help_of(alloc, "dump")?.as_str(), HELP_OF_DUMP);
+    assert_same(&rt, help_of(alloc, "import")?.as_str(), HELP_OF_IMPORT);
+    assert_same(&rt, help_of(alloc, "drivers")?.as_str(), HELP_OF_DRIVERS);
+    Ok(())
+}
+
+/// What arguments ask for without the parser: `h` help, `v` the version, the name of a command, or `f` and how many files.
+const EARLY: &[(&[&str], &str, usize)] = &[
+    (&["tacho"], "", 0),
+    (&["tacho", "help"], "h", 0),
+    (&["tacho", "--help"], "h", 0),
+    (&["tacho", "-h"], "h", 0),
+    (&["tacho", "-V"], "v", 0),
+    (&["tacho", "--version"], "v", 0),
+    (&["tacho", "version"], "", 0),
+    (&["tacho", "help", "base"], "base", 0),
+    (&["tacho", "base", "--help"], "base", 0),
+    (&["tacho", "base", "-h", "17"], "base", 0),
+    (&["tacho", "help", "weigh"], "", 0),
+    (&["tacho", "help", "base", "key"], "", 0),
+    (&["tacho", "weigh", "-h"], "", 0),
+    (&["tacho", "import", "a.db", "both"], "", 0),
+    (&["tacho", "import", "a.db", "both", "a.ddd"], "f", 1),
+    (
+        &["tacho", "import", "a.db", "both", "a.ddd", "b.ddd"],
+        "f",
+        2,
+    ),
+    (
+        &["tacho", "import", "a.db", "both", "a.ddd", "--all"],
+        "",
+        0,
+    ),
+    (&["tacho", "enter", "a.db", "17", "a.csv"], "", 0),
+];
+
+#[test]
+fn some_arguments_need_no_parser(rt: HostRuntime) -> Result<(), Fail> {
+    for &(words, name, count) in EARLY {
+        let given = strings(rt.alloc(), words)?;
+        let found = match asked_early(&given) {
+            None => ("", 0),
+            Some(Asked::Help) => ("h", 0),
+            Some(Asked::HelpOf(name)) => (name, 0),
+            Some(Asked::Version) => ("v", 0),
+            Some(Asked::Files { files, .. }) => ("f", files.len()),
+        };
+        assert_same(&rt, found, (name, count));
+    }
     Ok(())
 }

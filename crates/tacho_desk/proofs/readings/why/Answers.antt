@@ -1,8 +1,7 @@
-use Rattle.std.proofs.Common.{rules, inl, inr, refl, subst, sym, map, List, Option, String, Global, string_bytes}
+use Rattle.std.proofs.Common.{inl, inr, refl, subst, sym, map, List, Option, String, Global, string_bytes}
 use Rattle.std.specs.Prelude.{IfSome}
 use Rattle.tacho_stretches.specs.declared.stretch.Stretch.{Stretch}
 use Rattle.tacho_stretches.specs.Stretches.{judged_of}
-use Rattle.tacho_state.specs.State.{State}
 use Rattle.tacho_desk.specs.Fault.{IsFailure}
 use Rattle.tacho_desk.proofs.ShownLemmas.{why_shown, EndInTime, IsWhyIf}
 use Rattle.tacho_desk.proofs.readings.why.Goals as goal

@@ -1,6 +1,7 @@
 use Rattle.std.proofs.Common.{◌≡◌, ◌≤◌, take, drop}
 use Rattle.tacho_state.specs.State.{State}
-use Rattle.tacho_http.specs.Run.{Kept, Run, Went, WentKept}
+use Rattle.tacho_desk.specs.Doing.{Kept}
+use Rattle.tacho_http.specs.Run.{Run, Went, WentKept}
 use Rattle.tacho_http.proofs.connections.answer_all.Given as goal
 
 -- the connections so far are a run, and the others are unchanged

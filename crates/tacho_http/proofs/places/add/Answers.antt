@@ -1,9 +1,9 @@
-use Rattle.tacho_http.proofs.RouteLemmas.{empty_added, path_added}
+use Rattle.std.proofs.Common.{refl}
+use Rattle.matchit.specs.Route.{parse_route}
+use Rattle.tacho_http.proofs.RouteLemmas.{inserted}
 use Rattle.tacho_http.proofs.places.add.Goals as goal
-
-pub returns-then-is_empty : goal.returns-then-is_empty
-returns-then-is_empty c = empty_added c.args.router.now c.args.place c.args.path.now c.if-is_empty.ensures
 
 pub returns : goal.returns
 returns c =
-    path_added c.args.router.now c.insert.new.self c.args.place c.args.path.now c.insert.result c.if-is_empty.ensures c.insert.ensures
+    let path = c.args.path.now in
+    rw (c.asker_at-asker.ensures) at (inserted c.args.router.now c.insert.new.self _ path (parse_route path) c.insert.result refl c.insert.ensures)
