@@ -16,20 +16,19 @@ import time
 TOP = os.path.dirname(os.path.dirname(os.path.realpath(__file__)))
 TABLE = os.path.join(TOP, "crates", "tacho_desk", "src", "table.rt")
 WANTS = os.path.join(TOP, "crates", "tacho_desk", "specs", "Wants.antt")
-WORDS = os.path.join(TOP, "crates", "tacho_cli", "src", "words.rt")
+HELP = os.path.join(TOP, "crates", "tacho_cli", "src", "help.rt")
 
-# The columns of the table as CSV. The input is what the usage names, and the paths are those of the office's request and of a driver's.
-# Several arguments are separated by spaces, and what a command doesn't have is empty.
+# The columns of the table as CSV. The input is what the usage names, and the paths are those of the office's requests and of a driver's.
+# Several arguments or paths are separated by spaces, an optional argument is in brackets, and what a command doesn't have is empty.
 COLUMNS = ["command", "arguments", "input", "method", "office", "driver"]
 
 # A row of the table.
 ROW = re.compile(r'''    Command \{
         name: "(?P<name>[a-z]+)",
         about: "(?P<about>[^"\\\\]+)",
-        words: &\[(?P<words>[^\]]*)\],
+        words: &\[(?P<words>.*)\],
         act: (?P<act>.*),
-        office: "(?P<office>[^"]*)",
-        driver: "(?P<driver>[^"]*)",
+        paths: &\[(?P<paths>[^\]]*)\],
     \},
 ''')
 
@@ -39,7 +38,7 @@ STATUSES = {
     0: "The command has done what it should.",
     1: "The command has refused its input, and nothing has changed. The line that it prints begins with the code of the fault. Of check: the "
        "archive isn't sound.",
-    2: "The arguments name no command, or ask for help. The usage goes to standard error, and nothing has changed.",
+    2: "The arguments name no command. The usage goes to standard error, and nothing has changed.",
     3: "Memory, the archive's file or a device failed (M1, S12, X2). Whether the command has acted: see docs/OFFICE.md, "
        "'When something fails'.",
 }
@@ -66,19 +65,32 @@ def text_of(path: str) -> str:
 class Command:
     """A command: a row of the table, and whether it changes an archive."""
 
-    def __init__(self, row: re.Match[str], changes: bool) -> None:
+    def __init__(self, row: re.Match[str], changes: bool, read: str) -> None:
         self.name = row["name"]
         self.about = row["about"]
-        self.arguments = re.findall(r'"([a-z]+)"', row["words"])
-        read = re.search(rf"tacho {self.name}\b[A-Z ]* < ([A-Z]+)", self.about)
-        self.input = read[1] if read else ""
-        self.office = row["office"]
-        self.driver = row["driver"]
-        self.method = ("POST" if changes else "GET") if self.office or self.driver else ""
+        self.arguments = re.findall(r'"([A-Z\[\]]+)"', row["words"])
+        self.input = read
+        paths = re.findall(r'"([^"]+)"', row["paths"])
+        self.office = [path for path in paths if not path.startswith("/me/")]
+        self.driver = [path for path in paths if path.startswith("/me/")]
+        self.method = ("POST" if changes else "GET") if paths else ""
 
     def columns(self) -> list[str]:
         """The values of COLUMNS."""
-        return [self.name, " ".join(self.arguments), self.input, self.method, self.office, self.driver]
+        arguments = " ".join(self.arguments).lower()
+        return [self.name, arguments, self.input, self.method, " ".join(self.office), " ".join(self.driver)]
+
+
+def input_of(source: str, act: str) -> str:
+    """What a command with this act reads from its input, by the text of help.rt, or an empty text."""
+    body = re.search(r"^pub\(crate\) fn input_of\(.*?^\}", source, re.MULTILINE | re.DOTALL)
+    if body is None:
+        raise Stop(f"{HELP} has no function input_of")
+    name = re.sub(r"\W+$", "", act).split("(")[-1]
+    for names, read in re.findall(r'((?:[^=]|\n)*?)=> Some\("([A-Z]+)"\)', body[0]):
+        if re.search(rf"::{name}\b", names):
+            return read
+    return ""
 
 
 def commands_of(source: str) -> list[Command]:
@@ -87,7 +99,8 @@ def commands_of(source: str) -> list[Command]:
     if table is None:
         raise Stop(f"{TABLE} has no table of commands")
     changing = [f"AtDesk({want})" for want in re.findall(r"^is_command (\w+) = true$", text_of(WANTS), re.MULTILINE)]
-    commands = [Command(row, row["act"] in changing) for row in ROW.finditer(table[2])]
+    helped = text_of(HELP)
+    commands = [Command(row, row["act"] in changing, input_of(helped, row["act"])) for row in ROW.finditer(table[2])]
     if len(commands) != int(table[1]):
         raise Stop(f"{len(commands)} of the {table[1]} rows of the table of commands in {TABLE} can be read")
     return commands
@@ -103,16 +116,16 @@ def table_csv() -> str:
 
 
 def meanings_of(source: str, commands: list[Command]) -> dict[str, str]:
-    """The description of each argument, in the order in which the commands first name them, by the text of words.rt. Raises `Stop` if it
+    """The description of each argument, in the order in which the commands first name them, by the text of help.rt. Raises `Stop` if it
     doesn't describe exactly these arguments."""
     body = re.search(r"^fn meaning_of\(.*?^\}", source, re.MULTILINE | re.DOTALL)
-    named = list(dict.fromkeys(argument for command in commands for argument in command.arguments))
-    found = dict(re.findall(r'id == "([a-z]+)" \{\s*"([^"\\]+)"', body[0] if body else ""))
-    # The last description, after `else`, is that of the one argument that isn't named before.
+    named = list(dict.fromkeys(argument.strip("[]") for command in commands for argument in command.arguments))
+    found = dict(re.findall(r'"([A-Z]+)"(?: \| "\[[A-Z]+\]")? => (?:\{\s*)?"([^"\\]+)"', body[0] if body else ""))
+    # The last description is that of the one argument that isn't named before.
     rest = [argument for argument in named if argument not in found]
-    last = re.search(r'else \{\s*"([^"\\]+)"\s*\}\s*\}$', body[0] if body else "")
+    last = re.search(r'_ => "([^"\\]+)",\s*\}\s*\}$', body[0] if body else "")
     if last is None or len(rest) != 1 or set(found) > set(named):
-        raise Stop(f"the descriptions of the arguments in {WORDS} can't be read")
+        raise Stop(f"the descriptions of the arguments in {HELP} can't be read")
     found[rest[0]] = last[1]
     return {argument: found[argument] for argument in named}
 
@@ -135,8 +148,17 @@ def italic(text: str) -> str:
 
 def form_of(command: Command) -> str:
     """How a command is typed, as roff source."""
-    words = [bold(command.name), *(italic(argument.upper()) for argument in command.arguments)]
+    words = [bold(command.name), *(italic(argument) for argument in command.arguments)]
     return " ".join([*words, *(["<", italic(command.input)] if command.input else [])])
+
+
+def forms_of(command: Command) -> list[tuple[str, str]]:
+    """How a command is typed, as roff source, each form with its description."""
+    forms = [(form_of(command), command.about)]
+    if command.name == "import":
+        files = "Adds several card files, each by itself. A folder stands for its files with the endings .ddd, .c1b, .tgd and .esm"
+        forms.append((f"{form_of(command).split(' < ')[0]} {italic('FILE')}...", files))
+    return forms
 
 
 def listed(items: list[tuple[str, str]]) -> list[str]:
@@ -164,15 +186,15 @@ def manual(version: str, seconds: int) -> str:
                 "(EC) No 561/2006, for a driver alone in the vehicle. The archive is a single file. A command opens it, reads its input, prints its answer, and ends; while a "
                 "command has it open, any other gets 'S12 store failed'. All times are UTC."),
         ".PP",
-        escaped("An answer goes to standard output, also the line of a fault. An input has at most 262144 bytes, that of dump at most "
-                "65535."),
+        escaped("An answer goes to standard output, also the line of a fault, for which standard error gets a sentence that says what to do. "
+                "An input has at most 262144 bytes, that of dump at most 65535."),
         ".SH COMMANDS",
-        *listed([(form_of(command), command.about) for command in commands]),
+        *listed([form for command in commands for form in forms_of(command)]),
         ".TP",
         f"{bold('help')} [{italic('COMMAND')}]",
-        escaped("Prints how the program or a command is used, on standard error"),
+        escaped("Prints these commands, or how a command is used"),
         ".SH ARGUMENTS",
-        *listed([(italic(argument.upper()), about) for argument, about in meanings_of(text_of(WORDS), commands).items()]),
+        *listed([(italic(argument), about) for argument, about in meanings_of(text_of(HELP), commands).items()]),
         ".SH EXIT STATUS",
         *listed([(bold(str(status)), about) for status, about in STATUSES.items()]),
         ".SH FILES",

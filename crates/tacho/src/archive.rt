@@ -5,13 +5,17 @@
 
 ghost use Rattle.std.specs.Prelude.{◌≡◌, false};
 
+use crate::advice::{NO_PORT, advice_on};
 use sqlite::{Alter, Connection, Error, ErrorCode, File, FileStore};
-use std::alloc::AllocError;
-use std::fs::{self, Permissions};
-use std::os::unix::fs::{MetadataExt, OpenOptionsExt, PermissionsExt};
+use std::alloc::Global;
+use std::fs;
+use std::io::IsTerminal;
 use tacho_check::{Unsound, check, check_text};
-use tacho_cli::{DeskJob, perform_at_desk};
+use tacho_cli::{CardFiles, DeskJob, answer_at_desk, import_files, read_file, tell_answer};
+use tacho_desk::{Fault, part_of};
+use tacho_disk::{NotOwned, Watched, cause_of, make_own};
 use tacho_serve::{Place, ServeFault, serve};
+use tacho_sheet::Fault as ToldFault;
 use tacho_state::StoreFault;
 use tacho_store::Archive;
 use tacho_time::Device;
@@ -19,8 +23,8 @@ use tacho_time::Device;
 /// A connection to a file.
 type FileConnection = Connection<FileStore<File>>;
 
-/// The mode of a new file: only its owner reads and writes it, because it contains the keys of drivers.
-const OWNER_ALONE: u32 = 0o600;
+/// The megabytes above which a file is large.
+const LARGE: u64 = 20;
 
 /// What is done at the archive in a file.
 #[derive(Clone, Copy)]
@@ -33,52 +37,59 @@ pub enum Work<'a> {
     Check,
     /// Does a task, with standard input and output.
     Task(DeskJob<'a>),
+    /// Imports the card files with these names.
+    Import { part: &'a str, names: &'a [String] },
     /// Answers `count` connections on a port of 127.0.0.1, with the office's key and those of drivers.
     Serve { key: &'a str, port: u16, count: u32 },
 }
 
-/// How a job ends: the line to print once the file is closed (empty if the job has printed everything), and the status.
+/// How a job ends: the line to print once the file is closed (empty if the job has printed everything), the status, and the fault, for which
+/// a person gets a sentence.
 #[derive(Clone, Copy)]
 struct Ending {
     line: &'static str,
     status: u8,
+    fault: Option<Fault>,
 }
 
 /// An ending with nothing further to print.
 fn with_status(status: u8) -> Ending {
-    Ending { line: "", status }
+    Ending {
+        line: "",
+        status,
+        fault: None,
+    }
 }
 
 /// An ending without a fault.
 fn done(line: &'static str) -> Ending {
-    Ending { line, status: 0 }
+    Ending {
+        line,
+        ..with_status(0)
+    }
 }
 
 /// The ending of a job if the archive has an old schema, the store failed, or memory ran out.
 fn refused(fault: StoreFault) -> Ending {
-    match fault {
-        StoreFault::OldSchema => Ending {
-            line: "S13 old archive\n",
-            status: 1,
-        },
-        StoreFault::Memory => Ending {
-            line: "M1 no memory\n",
-            status: 3,
-        },
-        _ => Ending {
-            line: "S12 store failed\n",
-            status: 3,
-        },
+    let (line, status) = match fault {
+        StoreFault::OldSchema => ("S13 old archive\n", 1),
+        StoreFault::Memory => ("M1 no memory\n", 3),
+        _ => ("S12 store failed\n", 3),
+    };
+    Ending {
+        line,
+        status,
+        fault: Some(Fault::from(fault)),
     }
 }
 
 /// Prints the line of an ending, and returns its status, or 3 if the line can't be written.
-fn tell(rt: &impl Print, ending: Ending) -> u8 {
-    if ending.line.is_empty() {
-        return ending.status;
+fn tell(rt: &impl Print, line: &str, status: u8) -> u8 {
+    if line.is_empty() {
+        return status;
     }
-    match print!(rt; "{}", ending.line) {
-        Ok(()) => ending.status,
+    match print!(rt; "{line}") {
+        Ok(()) => status,
         Err(_) => 3,
     }
 }
@@ -153,77 +164,66 @@ fn do_task<S: Alter + Drop>(
     };
     let mut reader = Device::new(rt.stdin());
     let mut writer = Device::new(rt.stdout());
-    let status = perform_at_desk(rt.alloc(), job, &mut archive, &mut reader, &mut writer);
-    (with_status(status), archive.close())
+    let answer = answer_at_desk(rt.alloc(), job, &mut archive, &mut reader);
+    let ending = Ending {
+        line: "",
+        status: tell_answer(&mut writer, &answer),
+        fault: answer.err(),
+    };
+    (ending, archive.close())
 }
 
-/// A file as its path finds it: the device that it is on, its number there, and its length in bytes.
+/// The card files of the file system.
 #[derive(Clone, Copy)]
-struct Found {
-    device: u64,
-    number: u64,
-    length: u64,
+struct Cards<'a> {
+    rt: &'a HostRuntime,
 }
 
-/// The file that a path finds, if it finds one.
-fn found_at(rt: &HostRuntime, path: &str) -> Option<Found> {
-    match fs::metadata(rt, path) {
-        Ok(found) => Some(Found {
-            device: found.dev(),
-            number: found.ino(),
-            length: found.len(),
-        }),
-        Err(_) => None,
-    }
-}
+impl CardFiles for Cards<'_> {
+    ghost gives = { λ files name read. Unit {0} };
 
-/// True if the file that was found before is found again, and isn't shorter: an open archive never shortens its files.
-fn is_same(before: Option<Found>, now: Option<Found>) -> bool {
-    match (before, now) {
-        (Some(before), Some(now)) => {
-            now.device == before.device
-                && now.number == before.number
-                && now.length >= before.length
+    fn read(&self, alloc: Global, name: &str) -> Result<Vec<u8>, Fault> {
+        match fs::File::open(self.rt, name) {
+            Ok(file) => read_file(alloc, &mut Device::new(file)),
+            Err(_) => Err(Fault::Device),
         }
-        _ => false,
     }
 }
 
-/// The files of an open archive, as their paths have last found them.
+/// `tacho import` with files: imports each at an existing archive.
+fn import_all<S: Alter + Drop>(
+    rt: &HostRuntime,
+    conn: Connection<S>,
+    part: &str,
+    names: &[String],
+) -> (Ending, Connection<S>)
+    requires { conn.in_transaction ≡ false }
+{
+    let mut archive = match Archive::adopt(conn) {
+        Ok(archive) => archive,
+        Err(refusal) => return (refused(refusal.0), refusal.1),
+    };
+    let cards = Cards { rt };
+    let mut writer = Device::new(rt.stdout());
+    let status = import_files(rt.alloc(), &mut archive, part, names, &cards, &mut writer);
+    let ending = Ending {
+        line: "",
+        status,
+        fault: match part_of(part.as_bytes()) {
+            Some(_) => None,
+            None => Some(Fault::Told(ToldFault::Part)),
+        },
+    };
+    (ending, archive.close())
+}
+
+/// The files of an open archive.
 #[derive(Drop)]
-struct Files<'a> {
-    path: &'a str,
-    log_path: String,
-    file: Option<Found>,
-    log: Option<Found>,
-}
-
-impl<'a> Files<'a> {
-    /// The files of the archive that has just been opened.
-    fn of(rt: &HostRuntime, path: &'a str) -> Result<Files<'a>, AllocError> {
-        let log_path = format!(in rt.alloc(); "{path}-wal")?;
-        let file = found_at(rt, path);
-        let log = found_at(rt, &log_path);
-        Ok(Files {
-            path,
-            log_path,
-            file,
-            log,
-        })
-    }
-}
+struct Files<'a>(Watched<'a>);
 
 impl Place for Files<'_> {
-    /// True if the paths still find the files that are open. If a file was removed, replaced or cut, what the archive goes on to write is lost
-    /// when it is closed.
     fn is_there(&mut self, rt: &HostRuntime) -> bool {
-        let file = found_at(rt, self.path);
-        let log = found_at(rt, &self.log_path);
-        // The log may have been made since.
-        let is_there = is_same(self.file, file) && (self.log.is_none() || is_same(self.log, log));
-        self.file = file;
-        self.log = log;
-        is_there
+        self.0.are_there(rt)
     }
 }
 
@@ -242,14 +242,15 @@ fn serve_requests<S: Alter + Drop>(
         Ok(archive) => archive,
         Err(refusal) => return (refused(refusal.0), refusal.1),
     };
-    let Ok(mut files) = Files::of(rt, path) else {
+    let Ok(files) = Watched::new(rt, path) else {
         return (refused(StoreFault::Memory), archive.close());
     };
-    let ending = match serve(rt, &mut archive, &mut files, key, port, count) {
+    let ending = match serve(rt, &mut archive, &mut Files(files), key, port, count) {
         Ok(()) => with_status(0),
         Err(ServeFault::Device) => Ending {
             line: "X2 device failed\n",
             status: 3,
+            fault: Some(Fault::Device),
         },
         Err(ServeFault::Store) => refused(StoreFault::Store),
         Err(ServeFault::Memory) => refused(StoreFault::Memory),
@@ -272,57 +273,21 @@ fn at_connection<S: Alter + Drop>(
         Work::Create => create_archive(conn),
         Work::Migrate => migrate_archive(conn),
         Work::Task(job) => do_task(rt, conn, job),
+        Work::Import { part, names } => import_all(rt, conn, part, names),
         Work::Serve { key, port, count } => serve_requests(rt, conn, path, key, port, count),
     };
     (ending, Some(conn))
-}
-
-/// Makes an empty file with that mode if none exists. Gives that mode to an empty file that exists, and to a log beside a new or an empty
-/// file. The store treats an empty file as new, and gives its log the same mode. If the file can't be made, or isn't empty, the store
-/// reports why.
-fn make_own(rt: &HostRuntime, path: &str) -> Result<(), StoreFault> {
-    let mut options = fs::File::options();
-    let made = options
-        .write(true)
-        .create_new(true)
-        .mode(OWNER_ALONE)
-        .open(rt, path);
-    if made.is_err() {
-        if !is_empty(rt, path) {
-            return Ok(());
-        }
-        own(rt, path)?;
-    }
-    let Ok(log) = format!(in rt.alloc(); "{path}-wal") else {
-        return Err(StoreFault::Memory);
-    };
-    if matches!(fs::exists(rt, &log), Ok(true)) {
-        own(rt, &log)?;
-    }
-    Ok(())
-}
-
-/// True if a path names an empty file.
-fn is_empty(rt: &HostRuntime, path: &str) -> bool {
-    match fs::metadata(rt, path) {
-        Ok(found) => found.is_file() && found.len() == 0,
-        Err(_) => false,
-    }
-}
-
-/// Gives a file that mode. Fails if it belongs to another user.
-fn own(rt: &HostRuntime, path: &str) -> Result<(), StoreFault> {
-    match fs::set_permissions(rt, path, Permissions::from_mode(OWNER_ALONE)) {
-        Ok(()) => Ok(()),
-        Err(_) => Err(StoreFault::Store),
-    }
 }
 
 /// Opens an archive's file: a new one if the archive is to be made, otherwise an existing one. A new file gets checksums of its pages, by which
 /// later opens find what was changed in it.
 fn open_file(rt: &HostRuntime, path: &str, work: Work<'_>) -> Result<FileConnection, StoreFault> {
     if matches!(work, Work::Create) {
-        make_own(rt, path)?;
+        match make_own(rt, path) {
+            Ok(()) => (),
+            Err(NotOwned::File) => return Err(StoreFault::Store),
+            Err(NotOwned::Memory) => return Err(StoreFault::Memory),
+        }
     } else if !matches!(fs::exists(rt, path), Ok(true)) {
         return Err(StoreFault::Store);
     }
@@ -333,17 +298,49 @@ fn open_file(rt: &HostRuntime, path: &str, work: Work<'_>) -> Result<FileConnect
     }
 }
 
+/// Tells who waits at a terminal that a large file is opened, which takes seconds.
+fn announce(rt: &HostRuntime, path: &str) {
+    let Ok(found) = fs::metadata(rt, path) else {
+        return;
+    };
+    let megabytes = found.len() / 1_000_000;
+    if megabytes > LARGE && rt.stderr().is_terminal() {
+        let _ = eprint!(rt; "tacho: opening {path}, {megabytes} MB\n");
+    }
+}
+
+/// Writes the sentence for a fault on standard error.
+fn advise(rt: &HostRuntime, path: &str, work: Work<'_>, fault: Fault) {
+    let sentence = match (fault, work) {
+        (Fault::Told(ToldFault::Store(StoreFault::Store)), _) => {
+            advice_on(fault, cause_of(rt, path, matches!(work, Work::Create)))
+        }
+        (Fault::Device, Work::Serve { .. }) => NO_PORT,
+        _ => advice_on(fault, ""),
+    };
+    let _ = eprint!(rt; "tacho: {path}: {sentence}\n");
+}
+
 /// Does the work at the archive in a file, and returns the program's status. What was done is durable, even if the file's log can't be written
-/// back to the file at close: the next open does that.
+/// back to the file at close: the next open does that. After a fault standard error gets a sentence for a person.
 pub fn at_file(rt: &HostRuntime, path: &str, work: Work<'_>) -> u8 {
-    match open_file(rt, path, work) {
+    announce(rt, path);
+    let Ending {
+        line,
+        status,
+        fault,
+    } = match open_file(rt, path, work) {
         Ok(conn) => {
             let (ending, conn) = at_connection(rt, conn, path, work);
             if let Some(conn) = conn {
                 let _ = conn.close();
             }
-            tell(rt, ending)
+            ending
         }
-        Err(fault) => tell(rt, refused(fault)),
+        Err(fault) => refused(fault),
+    };
+    if let Some(fault) = fault {
+        advise(rt, path, work, fault);
     }
+    tell(rt, line, status)
 }

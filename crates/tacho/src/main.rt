@@ -1,14 +1,17 @@
 //! The program `tacho`.
 #![tactic(auto)]
 
+mod advice;
 mod archive;
 
 use crate::archive::{Work, at_file};
+use std::alloc::AllocError;
 use std::env;
-use std::io::{self, ErrorKind};
+use std::io::{self, ErrorKind, IsTerminal};
 use std::process::ExitCode;
 use std::rt::Env;
-use tacho_cli::{Job, Usage};
+use tacho_cli::{Asked, Job, Usage, asked_early, help_of, help_text, usage_text};
+use tacho_disk::card_files;
 use tacho_state::is_key;
 use tacho_time::Device;
 
@@ -37,8 +40,24 @@ fn no_key(rt: &impl Print) -> u8 {
     }
 }
 
-/// Does a job, and returns the program's status.
+/// Whether a job reads standard input.
+fn has_input(job: Job<'_>) -> bool {
+    match job {
+        Job::Dump | Job::Holder | Job::Card { .. } | Job::Listen { .. } => true,
+        Job::AtDesk(job) => job.want.takes_input(),
+        Job::Init { .. }
+        | Job::Migrate { .. }
+        | Job::Check { .. }
+        | Job::Serve { .. }
+        | Job::Version => false,
+    }
+}
+
+/// Does a job, and returns the program's status. Says so if it waits for somebody to type its input.
 fn run(rt: &HostRuntime, job: Job<'_>) -> u8 {
+    if has_input(job) && rt.stdin().is_terminal() {
+        let _ = eprint!(rt; "tacho: reading standard input; end it with Ctrl-D\n");
+    }
     let alloc = rt.alloc();
     let mut reader = Device::new(rt.stdin());
     let mut writer = Device::new(rt.stdout());
@@ -72,20 +91,81 @@ fn run(rt: &HostRuntime, job: Job<'_>) -> u8 {
     }
 }
 
+/// Prints a text.
+fn show(rt: &HostRuntime, text: Result<String, AllocError>) -> ExitCode {
+    match text {
+        Ok(text) => match print!(rt; "{}", text.as_str()) {
+            Ok(()) => ExitCode::SUCCESS,
+            Err(_) => ExitCode::from(3),
+        },
+        Err(_) => no_memory(rt),
+    }
+}
+
+/// Imports the card files that arguments name.
+fn import(
+    rt: &HostRuntime,
+    words: &[String],
+    archive: &str,
+    part: &str,
+    files: &[String],
+) -> ExitCode {
+    match card_files(rt, files) {
+        Ok(names) if names.is_empty() => misused(rt, words, "no card file was found"),
+        Ok(names) => ExitCode::from(at_file(
+            rt,
+            archive,
+            Work::Import {
+                part,
+                names: &names,
+            },
+        )),
+        Err(_) => no_memory(rt),
+    }
+}
+
+/// Shows what is wrong with arguments, and how the command is used.
+fn misused(rt: &HostRuntime, words: &[String], cause: &str) -> ExitCode {
+    match usage_text(rt.alloc(), cause, words) {
+        Ok(text) => usage(rt, text.as_str()),
+        Err(_) => no_memory(rt),
+    }
+}
+
+/// Does what the parser finds in arguments.
+fn parse(rt: &HostRuntime, words: &[String]) -> ExitCode {
+    match tacho_cli::parse(rt.alloc(), words) {
+        Ok(job) => ExitCode::from(run(rt, job)),
+        Err(Usage::Words(text)) => usage(rt, text.as_str()),
+        Err(Usage::Numbers) => misused(
+            rt,
+            words,
+            "PORT is a number from 1 to 65535, and COUNT one from 1 to 1000000",
+        ),
+        Err(Usage::Parser) => usage(rt, "tacho: no memory to read the arguments\n"),
+        Err(Usage::Memory) => no_memory(rt),
+    }
+}
+
 fn main(rt: HostRuntime) -> ExitCode {
     let words = match words(&rt) {
         Ok(words) => words,
         Err(error) if error.kind() == ErrorKind::OutOfMemory => return no_memory(&rt),
-        Err(_) => return usage(&rt, "the words of the command line are not all UTF-8\n"),
+        Err(_) => return usage(&rt, "tacho: the arguments are not all UTF-8\n"),
     };
-    match tacho_cli::parse(rt.alloc(), &words) {
-        Ok(job) => ExitCode::from(run(&rt, job)),
-        Err(Usage::Words(text)) => usage(&rt, text.as_str()),
-        Err(Usage::Numbers) => usage(
-            &rt,
-            "PORT is a number from 1 to 65535, and COUNT one from 1 to 1000000\n",
-        ),
-        Err(Usage::Parser) => usage(&rt, "no memory to read the words of the command line\n"),
-        Err(Usage::Memory) => no_memory(&rt),
+    match asked_early(&words) {
+        Some(Asked::Help) => show(&rt, help_text(rt.alloc())),
+        Some(Asked::HelpOf(name)) => show(&rt, help_of(rt.alloc(), name)),
+        Some(Asked::Version) => {
+            ExitCode::from(tacho_cli::version(&mut Device::new(rt.stdout())))
+        }
+        Some(
+            Asked::Files {
+                archive,
+                part,
+                files,
+            },
+        ) => import(&rt, &words, archive, part, files),
+        None => parse(&rt, &words),
     }
 }

@@ -4,3 +4,5 @@ mod WordsLemmas
 mod ListenLemmas
 mod TableLemmas
 mod PageFacts
+mod AskedLemmas
+mod FilesLemmas

@@ -1,5 +1,5 @@
 -- What a job at the archive does, derived from what its parts did.
-use Rattle.std.proofs.Common.{◌≡◌, ℕ, ◌<◌, ◌≤◌, inl, inr, ◌↔◌, Bool, true, false, List, [], length}
+use Rattle.std.proofs.Common.{◌≡◌, ℕ, ◌<◌, ◌≤◌, inl, inr, ◌↔◌, Bool, true, false, List, [], ◌∷◌, length}
 use Rattle.std.proofs.Common.{Option, None, Some, Result, Ok, Err, refl, sym, subst, arith}
 use Rattle.std.proofs.lemmas.List.{length-replicate}
 use Rattle.std.specs.Prelude.{IfSome, replicate}
@@ -57,6 +57,7 @@ none_faulty (task.Reading n text) input f e h = h
 none_faulty (task.MonthReading n m text) input f e h = h
 none_faulty (task.File n number) input f e h = h
 none_faulty task.Drivers input f e h = h
+none_faulty (task.Driver n) input f e h = h
 none_faulty task.Version input f e h = h
 none_faulty (task.MonthOfAll m text) input f e h = h
 
@@ -101,7 +102,9 @@ words_without (want.MonthReading text) c driver word is =
 words_without want.File c driver word is =
     driver_without c driver (λ n. ByNumber most_number word (λ k w. w ≡ Ok (task.File n k)))
     (λ n. number_without word (λ k. task.File n k)) is
-words_without want.Drivers c driver word is = cc
+words_without want.Drivers caller.Office [] word is = cc
+words_without want.Drivers caller.Office (digit ∷ driver) word is = driver_without caller.Office (digit ∷ driver) (λ n w. w ≡ Ok (task.Driver n)) (λ n e. cc) is
+words_without want.Drivers (caller.Driver m) driver word is = driver_without (caller.Driver m) driver (λ n w. w ≡ Ok (task.Driver n)) (λ n e. cc) is
 words_without want.Version c driver word is = cc
 words_without (want.MonthOfAll text) c driver word is = time_without (λ month. task.MonthOfAll month text) (month_at word) is
 
@@ -131,6 +134,7 @@ input_without (task.Reading n text) input h = h
 input_without (task.MonthReading n m text) input h = h
 input_without (task.File n number) input h = h
 input_without task.Drivers input h = h
+input_without (task.Driver n) input h = h
 input_without task.Version input h = h
 input_without (task.MonthOfAll m text) input h = h
 

@@ -12,10 +12,10 @@ mapped_at f [] i d e h = absurd (omega arith)
 mapped_at f (x ∷ xs) zero d e h = refl
 mapped_at f (x ∷ xs) (suc i) d e h = mapped_at f xs i d e (omega arith)
 
-drop_all : {X : Type 0} (xs : List X) (i : ℕ) → length xs ≤ i → drop i xs ≡ []
+pub drop_all : {X : Type 0} (xs : List X) (i : ℕ) → length xs ≤ i → drop i xs ≡ []
 drop_all xs i h = grind (arith, common_steps)
 
-next : {X Y : Type 0} (f : X → Y) (xs : List X) (i : ℕ) (d : X) → i < length xs
+pub next : {X Y : Type 0} (f : X → Y) (xs : List X) (i : ℕ) (d : X) → i < length xs
     → drop i (map f xs) ≡ f (get_or xs i d) ∷ drop (i + 1) (map f xs)
 next f xs i d h =
     let within : i < length (map f xs) = rw length-map h in

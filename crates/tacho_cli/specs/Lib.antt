@@ -4,6 +4,9 @@ pub mod Dump
 pub mod Holder
 pub mod Card
 pub mod Words
+pub mod Asked
 pub mod Office
+pub mod Files
+pub mod Tally
 pub mod Listen
 pub mod Version

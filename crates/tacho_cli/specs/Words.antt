@@ -1,5 +1,5 @@
 -- Trusted in part: The command line, and the job that its arguments name.
-use Rattle.std.specs.Prelude.{◌≡◌, ◌≢◌, ◌⊎◌, ℕ, Bool, true, false, List, [], ◌∷◌, Option, None, Some, bytes_eq, codes, if◌then◌else◌}
+use Rattle.std.specs.Prelude.{◌≡◌, ◌≢◌, ◌⊎◌, ℕ, Bool, true, false, List, [], ◌∷◌, Option, None, Some, bytes_eq, codes, not, ◌==◌, if◌then◌else◌}
 use Rattle.std.specs.Option.{option_or}
 use Rattle.tacho_sheet.specs.Number.{HasNoNumber, IsNumberText}
 use Rattle.clap.specs.Words.{App, Row, Rule, Text, first_of, new_app, new_rule, with_rule, with_subcommand}
@@ -16,9 +16,14 @@ use Rattle.tacho_cli.specs.declared.job.Job.TheVariants as job
 
 -- ---- the command line
 
--- a required argument
+-- the name of the argument is in brackets: it begins with one
+abbrev pub is_optional : Text → Bool
+is_optional [] = false
+is_optional (byte ∷ id) = byte == 91
+
+-- an argument; it is required unless it is optional
 abbrev pub word_rule : Text → Rule
-word_rule id = record (new_rule id) { required = true }
+word_rule id = record (new_rule id) { required = not (is_optional id) }
 
 -- a command with these arguments, in this order
 unfoldable pub with_words : App → List Text → App
@@ -69,28 +74,28 @@ or_empty (Some text) = text
 
 -- the driver's number; below, the other argument: a part, a number, a date or a month
 abbrev pub driver_text : List Row → Text
-driver_text rows = or_empty (first_of (codes "driver") rows)
+driver_text rows = or_empty (option_or (first_of (codes "DRIVER") rows) (first_of (codes "[DRIVER]") rows))
 
 abbrev pub other_text : List Row → Text
 other_text rows =
-    or_empty (option_or (option_or (first_of (codes "part") rows) (first_of (codes "number") rows))
-    (option_or (first_of (codes "date") rows) (first_of (codes "month") rows)))
+    or_empty (option_or (option_or (first_of (codes "PART") rows) (first_of (codes "NUMBER") rows))
+    (option_or (first_of (codes "DATE") rows) (first_of (codes "MONTH") rows)))
 
 -- the job of a subcommand, with the arguments in these rows
 abbrev pub IsJobOf : Act → List Row → Job → Type 0
 IsJobOf act.Dump rows j = j ≡ job.Dump
 IsJobOf act.Holder rows j = j ≡ job.Holder
-IsJobOf act.Card rows (job.Card part) = IsWord rows (codes "part") part.now
-IsJobOf act.Init rows (job.Init archive) = IsWord rows (codes "archive") archive.now
-IsJobOf act.Migrate rows (job.Migrate archive) = IsWord rows (codes "archive") archive.now
-IsJobOf act.Check rows (job.Check archive) = IsWord rows (codes "archive") archive.now
+IsJobOf act.Card rows (job.Card part) = IsWord rows (codes "PART") part.now
+IsJobOf act.Init rows (job.Init archive) = IsWord rows (codes "ARCHIVE") archive.now
+IsJobOf act.Migrate rows (job.Migrate archive) = IsWord rows (codes "ARCHIVE") archive.now
+IsJobOf act.Check rows (job.Check archive) = IsWord rows (codes "ARCHIVE") archive.now
 IsJobOf (act.AtDesk w) rows (job.AtDesk j) =
-    (j.want ≡ w) × IsWord rows (codes "archive") j.archive.now × (j.driver.now ≡ driver_text rows) × (j.word.now ≡ other_text rows)
+    (j.want ≡ w) × IsWord rows (codes "ARCHIVE") j.archive.now × (j.driver.now ≡ driver_text rows) × (j.word.now ≡ other_text rows)
 IsJobOf act.Serve rows (job.Serve archive key port count) =
-    IsWord rows (codes "archive") archive.now × IsWord rows (codes "key") key.now
-    × IsNumbered rows (codes "port") 65535 port × IsNumbered rows (codes "count") 1000000 count
+    IsWord rows (codes "ARCHIVE") archive.now × IsWord rows (codes "KEY") key.now
+    × IsNumbered rows (codes "PORT") 65535 port × IsNumbered rows (codes "COUNT") 1000000 count
 IsJobOf act.Listen rows (job.Listen archive port count) =
-    IsWord rows (codes "archive") archive.now × IsNumbered rows (codes "port") 65535 port × IsNumbered rows (codes "count") 1000000 count
+    IsWord rows (codes "ARCHIVE") archive.now × IsNumbered rows (codes "PORT") 65535 port × IsNumbered rows (codes "COUNT") 1000000 count
 IsJobOf act.Version rows j = j ≡ job.Version
 IsJobOf a rows j = ⊥
 
@@ -131,7 +136,7 @@ IsRefusal kind usage.Numbers = ⊥
 abbrev pub HasNoNumbered : List Row → Type 0
 HasNoNumbered rows =
     (text : Text)
-    × ((IsWord rows (codes "port") text × HasNoNumber 65535 text) ⊎ (IsWord rows (codes "count") text × HasNoNumber 1000000 text))
+    × ((IsWord rows (codes "PORT") text × HasNoNumber 65535 text) ⊎ (IsWord rows (codes "COUNT") text × HasNoNumber 1000000 text))
 
 -- why there is no port and count: one of them is no such number, or the parser gave no answer
 abbrev pub IsPortUsage : List Row → Usage → Type 0

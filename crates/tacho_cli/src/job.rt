@@ -50,7 +50,7 @@ pub enum Job<'a> {
         port: u16,
         count: u32,
     },
-    /// Prints the version of the program, of the archives that it makes, and of the kit that has proved it.
+    /// Prints the version of the program, of the archives that it makes, and of the logic in which it is proved.
     Version,
 }
 

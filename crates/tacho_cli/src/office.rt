@@ -7,7 +7,7 @@ ghost use Rattle.tacho_cli.specs.Office.{HasNotRead, HasRead, OfDesk, Performed,
 ghost use Rattle.tacho_cli.specs.Words.{at_desk, has_input};
 
 use crate::job::{DeskJob, Job};
-use crate::reply::{tell, tell_fault};
+use crate::reply::tell_answer;
 use std::alloc::Global;
 use tacho_desk::{Fault, Text, Want, carry_out, task_of};
 use tacho_state::{Caller, Keeper};
@@ -42,10 +42,8 @@ pub fn perform_at_desk<K: Keeper, R: Source, W: Sink>(
     ensures words { (fault : FaultValue) → IsTask job.entry.want Caller.Office job.entry.driver.now job.entry.word.now (Err fault)
         → reader.new ≡ reader.old }
 {
-    match job_answer(alloc, job.want, job.driver, job.word, keeper, reader) {
-        Ok(text) => tell(writer, text.bytes(), 0),
-        Err(fault) => tell_fault(writer, fault),
-    }
+    let answer = answer_at_desk(alloc, job, keeper, reader);
+    tell_answer(writer, &answer)
 }
 
 /// Does a job at an archive, as `perform_at_desk` does. The job has to be one for which `Job::at_desk` is true.
@@ -71,6 +69,23 @@ pub fn perform<K: Keeper, R: Source, W: Sink>(
         unreachable!()
     };
     perform_at_desk(alloc, job, keeper, reader, writer)
+}
+
+/// Does a job at an archive as `perform_at_desk` does, and answers it without writing anything.
+pub fn answer_at_desk<K: Keeper, R: Source>(
+    alloc: Global,
+    job: DeskJob<'_>,
+    keeper: &mut K,
+    reader: &mut R,
+) -> Result<Text, Fault>
+    requires reader { R.has_failed reader.old ≡ false }
+    ensures performed { Performed K.stands K.is_clean K.is_live K.leaves K.is_same keeper.old keeper.new
+        job.entry.want job.entry.driver.now job.entry.word.now (R.unread reader.old) (R.has_failed reader.new) (answer_of result) }
+    ensures alone { has_text job.entry.want ≡ false → reader.new ≡ reader.old }
+    ensures words { (fault : FaultValue) → IsTask job.entry.want Caller.Office job.entry.driver.now job.entry.word.now (Err fault)
+        → reader.new ≡ reader.old }
+{
+    job_answer(alloc, job.want, job.driver, job.word, keeper, reader)
 }
 
 /// Answers a job at the office's archive, with the texts of its arguments.

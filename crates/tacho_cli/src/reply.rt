@@ -1,9 +1,11 @@
 ghost use Rattle.std.specs.Prelude.{◌≡◌};
+ghost use Rattle.tacho_desk.specs.Told.{answer_of};
 ghost use Rattle.tacho_cli.specs.Command.{IsWrittenOut, failure_reply};
 ghost use Rattle.tacho_cli.specs.Fault.{told_status};
+ghost use Rattle.tacho_cli.specs.Office.{reply_of_answer};
 
 use tacho_card::CardFault;
-use tacho_desk::Fault;
+use tacho_desk::{Fault, Text};
 use tacho_sheet::{Fault as ToldFault, SheetFault, fault_line};
 use tacho_state::StoreFault;
 use tacho_time::{Sink, write_all};
@@ -26,6 +28,16 @@ pub(crate) fn tell_fault<W: Sink>(writer: &mut W, fault: Fault) -> u8
         Fault::Told(told) => tell(writer, fault_line(told).as_bytes(), status_of(&told)),
         Fault::Device => tell(writer, b"X2 device failed\n", 3),
         Fault::Memory => tell(writer, b"M1 no memory\n", 3),
+    }
+}
+
+/// Writes the text of an answer or the line of its fault, and returns the status, or 3 if the writer failed. Allocates no memory.
+pub fn tell_answer<W: Sink>(writer: &mut W, answer: &Result<Text, Fault>) -> u8
+    ensures { IsWrittenOut (W.has_failed writer.new) (W.written writer.old) (W.written writer.new) (reply_of_answer (answer_of answer.now)) result }
+{
+    match answer {
+        Ok(text) => tell(writer, text.bytes(), 0),
+        Err(fault) => tell_fault(writer, *fault),
     }
 }
 

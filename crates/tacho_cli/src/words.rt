@@ -5,6 +5,7 @@ ghost use Rattle.tacho_desk.specs.Commands.{all_commands, row_of};
 ghost use Rattle.tacho_cli.specs.Words.{act_named, needs_subcommand, or_empty, other_text, tacho_app, with_table, with_words, word_rule};
 ghost use Rattle.tacho_cli.specs.Words.{IsActUsage, IsJob, IsJobOf, IsNumbered, IsPortUsage, IsRefusal, IsUsage};
 
+use crate::help::error_text;
 use crate::job::{DeskJob, Job};
 use clap::error::ErrorKind;
 use clap::{Arg, ArgMatches, Command, Error};
@@ -41,48 +42,20 @@ const LAST_PORT: u32 = 65_535;
 
 const LAST_COUNT: u32 = 1_000_000;
 
-/// The description of an argument for the user.
-fn meaning_of(id: &str) -> &'static str {
-    if id == "archive" {
-        "The path of the archive"
-    } else if id == "driver" {
-        "The driver's number, 1 to 999999"
-    } else if id == "part" {
-        "The blocks of the card file that are read: first (first generation), second (second generation), or both"
-    } else if id == "number" {
-        "The number of the entry or the card file, as it was printed when it was added"
-    } else if id == "date" {
-        "A Monday, as 2024-03-04"
-    } else if id == "month" {
-        "A month, as 2024-03"
-    } else if id == "key" {
-        "The office's key: 8 to 64 letters, digits and hyphens"
-    } else if id == "port" {
-        "The port on 127.0.0.1, 1 to 65535"
-    } else {
-        "The number of connections to answer, 1 to 1000000"
-    }
-}
-
-/// A required argument.
+/// An argument. It is required, unless its name is in brackets.
 fn word<'a>(alloc: Global, id: &'a str) -> Arg<'a>
     ensures rule { rule_of result ≡ word_rule id.entry.now }
     ensures global { result.global ≡ false }
 {
-    Arg::new(alloc, id).required(true).help(meaning_of(id))
+    Arg::new(alloc, id).required(id.as_bytes().first() != Some(&b'['))
 }
 
 /// A command with its arguments.
-fn leaf<'a>(
-    alloc: Global,
-    name: &'a str,
-    about: &'a str,
-    ids: &[&'a str],
-) -> Result<Command<'a>, AllocError>
+fn leaf<'a>(alloc: Global, name: &'a str, ids: &[&'a str]) -> Result<Command<'a>, AllocError>
     ensures app { IfOk result (λ c. app_of c ≡ with_words (new_app name.entry.now) (map (λ s. s.now) ids.now)) }
     ensures local { IfOk result (λ c. (fields_of c).has_globals ≡ false) }
 {
-    let mut command = Command::new(alloc, name).about(about);
+    let mut command = Command::new(alloc, name);
     for id in ids {
         command = command.arg(word(alloc, *id))?;
     }
@@ -94,13 +67,9 @@ fn command_of<'a>(alloc: Global, table: &[Row]) -> Result<Command<'a>, AllocErro
     ensures { IfOk result (λ c. app_of c ≡ with_table (needs_subcommand (new_app (codes "tacho")))
         (map row_of table.now)) }
 {
-    let mut command = Command::new(alloc, "tacho")
-        .about(
-            "Archives the hours that driver cards record, and checks them against the rules on driving and rest",
-        )
-        .subcommand_required(true);
+    let mut command = Command::new(alloc, "tacho").subcommand_required(true);
     for row in table {
-        let leaf = leaf(alloc, row.name, row.about, row.words)?;
+        let leaf = leaf(alloc, row.name, row.words)?;
         command = command.subcommand(leaf)?;
     }
     Ok(command)
@@ -126,7 +95,7 @@ fn act_in(table: &[Row], name: &str) -> Option<Act>
 }
 
 /// What the subcommand with a name does.
-fn act_of(name: &str) -> Option<Act>
+pub(crate) fn act_of(name: &str) -> Option<Act>
     ensures { result ≡ act_named name.now all_commands }
 {
     act_in(command_table(), name)
@@ -153,8 +122,8 @@ fn text_or_empty<'a>(text: Option<&'a str>) -> &'a str
 fn other_of<'a>(words: &ArgMatches<'a>) -> &'a str
     ensures { result.now ≡ other_text (rows_of (found_of words.now)) }
 {
-    let number = text_of(words, "part").or(text_of(words, "number"));
-    let time = text_of(words, "date").or(text_of(words, "month"));
+    let number = text_of(words, "PART").or(text_of(words, "NUMBER"));
+    let time = text_of(words, "DATE").or(text_of(words, "MONTH"));
     text_or_empty(number.or(time))
 }
 
@@ -166,19 +135,19 @@ fn job_of<'a>(act: Act, words: &ArgMatches<'a>) -> Result<Job<'a>, Usage>
     match act {
         Act::Dump => Ok(Job::Dump),
         Act::Holder => Ok(Job::Holder),
-        Act::Card => match text_of(words, "part") {
+        Act::Card => match text_of(words, "PART") {
             Some(part) => Ok(Job::Card { part }),
             None => Err(Usage::Parser),
         },
-        Act::Init => match text_of(words, "archive") {
+        Act::Init => match text_of(words, "ARCHIVE") {
             Some(archive) => Ok(Job::Init { archive }),
             None => Err(Usage::Parser),
         },
-        Act::Migrate => match text_of(words, "archive") {
+        Act::Migrate => match text_of(words, "ARCHIVE") {
             Some(archive) => Ok(Job::Migrate { archive }),
             None => Err(Usage::Parser),
         },
-        Act::Check => match text_of(words, "archive") {
+        Act::Check => match text_of(words, "ARCHIVE") {
             Some(archive) => Ok(Job::Check { archive }),
             None => Err(Usage::Parser),
         },
@@ -194,10 +163,11 @@ fn desk_of<'a>(want: Want, words: &ArgMatches<'a>) -> Result<Job<'a>, Usage>
     ensures job { IfOk result (IsJobOf (Act.AtDesk want) (rows_of (found_of words.now))) }
     ensures usage { IfErr result (λ usage. usage ≡ Usage.Parser) }
 {
-    let Some(archive) = text_of(words, "archive") else {
+    let Some(archive) = text_of(words, "ARCHIVE") else {
         return Err(Usage::Parser);
     };
-    let driver = text_or_empty(text_of(words, "driver"));
+    let driver = text_of(words, "DRIVER").or(text_of(words, "[DRIVER]"));
+    let driver = text_or_empty(driver);
     let word = other_of(words);
     Ok(Job::AtDesk(DeskJob {
         archive,
@@ -213,7 +183,7 @@ fn serve_of<'a>(words: &ArgMatches<'a>) -> Result<Job<'a>, Usage>
     ensures job { IfOk result (IsJobOf Act.Serve (rows_of (found_of words.now))) }
     ensures usage { IfErr result (IsActUsage Act.Serve (rows_of (found_of words.now))) }
 {
-    let (Some(archive), Some(key)) = (text_of(words, "archive"), text_of(words, "key")) else {
+    let (Some(archive), Some(key)) = (text_of(words, "ARCHIVE"), text_of(words, "KEY")) else {
         return Err(Usage::Parser);
     };
     let (port, count) = match port_and_count(words) {
@@ -234,7 +204,7 @@ fn listen_of<'a>(words: &ArgMatches<'a>) -> Result<Job<'a>, Usage>
     ensures job { IfOk result (IsJobOf Act.Listen (rows_of (found_of words.now))) }
     ensures usage { IfErr result (IsActUsage Act.Listen (rows_of (found_of words.now))) }
 {
-    let Some(archive) = text_of(words, "archive") else {
+    let Some(archive) = text_of(words, "ARCHIVE") else {
         return Err(Usage::Parser);
     };
     let (port, count) = match port_and_count(words) {
@@ -250,11 +220,11 @@ fn listen_of<'a>(words: &ArgMatches<'a>) -> Result<Job<'a>, Usage>
 
 /// Reads the port, 1 to 65535, and the count, 1 to 1,000,000. Fails with `Usage::Numbers` if one of them isn't a valid number.
 fn port_and_count(words: &ArgMatches<'_>) -> Result<(u16, u32), Usage>
-    ensures numbers { IfOk result (λ n. IsNumbered (rows_of (found_of words.now)) (codes "port") 65535 n.0
-        × IsNumbered (rows_of (found_of words.now)) (codes "count") 1000000 n.1) }
+    ensures numbers { IfOk result (λ n. IsNumbered (rows_of (found_of words.now)) (codes "PORT") 65535 n.0
+        × IsNumbered (rows_of (found_of words.now)) (codes "COUNT") 1000000 n.1) }
     ensures usage { IfErr result (IsPortUsage (rows_of (found_of words.now))) }
 {
-    let (Some(port), Some(count)) = (text_of(words, "port"), text_of(words, "count")) else {
+    let (Some(port), Some(count)) = (text_of(words, "PORT"), text_of(words, "COUNT")) else {
         return Err(Usage::Parser);
     };
     let Some(port) = read_number(port.as_bytes(), LAST_PORT) else {
@@ -266,14 +236,14 @@ fn port_and_count(words: &ArgMatches<'_>) -> Result<(u16, u32), Usage>
     Ok((port as u16, count))
 }
 
-/// Converts an error of the parser: the usage, unless the parser was out of memory.
-fn refusal(alloc: Global, error: &Error) -> Usage
+/// Converts an error of the parser for these arguments: what is wrong and the usage, unless the parser was out of memory.
+fn refusal(alloc: Global, error: &Error, words: &[String]) -> Usage
     ensures { IsRefusal (kind_of error.now) result }
 {
     if matches!(error.kind(), ErrorKind::OutOfMemory) {
         return Usage::Parser;
     }
-    match error.to_string(alloc) {
+    match error_text(alloc, error, words) {
         Ok(text) => Usage::Words(text),
         Err(_) => Usage::Memory,
     }
@@ -289,7 +259,7 @@ pub fn parse<'a>(alloc: Global, words: &'a [String]) -> Result<Job<'a>, Usage>
     let command = tacho(alloc)?;
     let matches = match command.try_get_matches_from(words) {
         Ok(matches) => matches,
-        Err(error) => return Err(refusal(alloc, &error)),
+        Err(error) => return Err(refusal(alloc, &error, words)),
     };
     let Some((name, inner)) = matches.subcommand() else {
         return Err(Usage::Parser);

@@ -1,0 +1,66 @@
+//! What a person may do after a fault.
+
+use tacho_desk::Fault;
+use tacho_sheet::Fault as ToldFault;
+use tacho_state::StoreFault;
+
+/// The sentence if memory ran out.
+const NO_MEMORY: &str = "memory ran out: end other programs and try again";
+
+/// The sentence for a card file with a fault.
+const NO_CARD: &str = "this is no whole card file: read the card again";
+
+/// The sentence if the port of a server can't be had.
+pub const NO_PORT: &str = "the port is taken, or may not be used";
+
+/// The sentence for a fault. If the store failed, it is the probable cause. docs/FORMATS.md lists them, 'All lines of faults'.
+pub fn advice_on(fault: Fault, cause: &'static str) -> &'static str {
+    match fault {
+        Fault::Told(ToldFault::Store(fault)) => advice_on_store(fault, cause),
+        Fault::Told(told) => advice_on_told(told),
+        Fault::Device => "standard input can't be read, or standard output can't be written",
+        Fault::Memory => NO_MEMORY,
+    }
+}
+
+/// The sentence for a fault of an argument or an input.
+fn advice_on_told(fault: ToldFault) -> &'static str {
+    match fault {
+        ToldFault::Time(_) => "dates are written as 2024-03-04, months as 2024-03",
+        ToldFault::Number => {
+            "numbers are written without leading zeros; tacho drivers, entries and files list them"
+        }
+        ToldFault::Part => "PART is both, first or second",
+        ToldFault::TooLarge => "a card file or a text has at most 262144 bytes",
+        ToldFault::Card(_) => NO_CARD,
+        ToldFault::Sheet(_) => "nothing of this input was taken: correct it and give it again",
+        ToldFault::Store(_) => NO_MEMORY,
+    }
+}
+
+/// The sentence for a refusal of the archive, or if the store failed.
+fn advice_on_store(fault: StoreFault, cause: &'static str) -> &'static str {
+    match fault {
+        StoreFault::DriverTaken => "another driver has this number; tacho drivers lists them",
+        StoreFault::KeyTaken => "another driver has this key: make a new one",
+        StoreFault::HolderTaken => "another driver has this card; tacho drivers lists them",
+        StoreFault::UnknownDriver => {
+            "no driver has this number, or the card in this file; tacho drivers lists them, tacho register adds one"
+        }
+        StoreFault::NotYourCard => "this is another driver's card",
+        StoreFault::Contradiction(_) => {
+            "another mark is held for this minute, and nothing was changed; tacho entries lists what was entered by hand"
+        }
+        StoreFault::UnknownEntry => "the driver has no such entry; tacho entries lists them",
+        StoreFault::AlreadyWithdrawn => "this entry was withdrawn before",
+        StoreFault::NotMonday => "the base is a Monday",
+        StoreFault::UnknownDownload => "the driver has no such card file; tacho files lists them",
+        StoreFault::Card(_) => NO_CARD,
+        StoreFault::Store => cause,
+        StoreFault::OldSchema => {
+            "the archive is of an earlier version: make a backup, then tacho migrate"
+        }
+        StoreFault::Full => "the driver has a million card files or entries",
+        StoreFault::Memory => NO_MEMORY,
+    }
+}

@@ -1,0 +1,167 @@
+//! How the program and its commands are used. No contract is on these texts; the tests show them.
+
+use clap::Error;
+use clap::error::ErrorKind;
+use std::alloc::{AllocError, Global};
+use tacho_desk::{Act, Command as Row, Want, command_table};
+
+/// The commands, one per line.
+pub fn help_text(alloc: Global) -> Result<String, AllocError> {
+    let mut text = String::from_str(
+        alloc,
+        "Archives the hours that driver cards record, and checks them against the rules on driving and rest\n\n\
+         Usage: tacho COMMAND [ARGUMENT...]\n\nCommands:\n",
+    )?;
+    for row in command_table() {
+        write!(text, "  {:9}  {}\n", row.name, row.about)?;
+    }
+    text.push_str(
+        "  help       Prints these commands, or with the name of a command how it is used\n",
+    )?;
+    Ok(text)
+}
+
+/// How the command with a name is used: what it does, and its arguments.
+pub fn help_of(alloc: Global, name: &str) -> Result<String, AllocError> {
+    let mut text = String::new(alloc);
+    if let Some(row) = row_named(name) {
+        write!(text, "{}\n\nUsage: ", row.about)?;
+        push_usage(&mut text, row)?;
+        for (place, word) in row.words.iter().enumerate() {
+            text.push_str(if place == 0 { "\nArguments:\n" } else { "" })?;
+            write!(text, "  {:8}  {}\n", word, meaning_of(word))?;
+        }
+    }
+    Ok(text)
+}
+
+/// What the parser says is wrong with these arguments, and the usage.
+pub(crate) fn error_text(
+    alloc: Global,
+    error: &Error,
+    words: &[String],
+) -> Result<String, AllocError> {
+    if matches!(error.kind(), ErrorKind::MissingSubcommand) {
+        return usage_text(alloc, "no command was given", words);
+    }
+    let whole = error.to_string(alloc)?;
+    let mut text = usage_text(alloc, cause_in(&whole), words)?;
+    if matches!(error.kind(), ErrorKind::UnknownArgument) {
+        push_hint(&mut text, words)?;
+    }
+    Ok(text)
+}
+
+/// The cause in the text of an error of the parser: what follows `error: `, without the usage after it.
+fn cause_in(text: &str) -> &str {
+    let first = first_part(text);
+    first.strip_prefix("error: ").unwrap_or(first)
+}
+
+/// A text as far as its first empty line.
+fn first_part(text: &str) -> &str {
+    match text.split_once("\n\n") {
+        Some((first, _)) => first,
+        None => text,
+    }
+}
+
+/// What is wrong with these arguments, in one line, and the usage.
+pub fn usage_text(alloc: Global, cause: &str, words: &[String]) -> Result<String, AllocError> {
+    let mut text = String::from_str(alloc, "tacho:")?;
+    for part in cause.lines() {
+        write!(text, " {}", part.trim_ascii())?;
+    }
+    text.push_str("\n")?;
+    push_usage_of(&mut text, name_in(words))?;
+    Ok(text)
+}
+
+/// The name of the command in these arguments.
+fn name_in(words: &[String]) -> &str {
+    match words {
+        [_, name, ..] => name,
+        _ => "",
+    }
+}
+
+/// Says how a file is given to a command that reads its input.
+fn push_hint(text: &mut String, words: &[String]) -> Result<(), AllocError> {
+    let input = row_named(name_in(words)).and_then(|row| input_of(row.act));
+    match input {
+        Some(input) => write!(
+            text,
+            "       {input} is read from standard input: put < before the name of a file\n"
+        ),
+        None => Ok(()),
+    }
+}
+
+/// The usage of the command with a name, or of the program if no command has it.
+fn push_usage_of(text: &mut String, name: &str) -> Result<(), AllocError> {
+    text.push_str("usage: ")?;
+    match row_named(name) {
+        Some(row) => push_usage(text, row),
+        None => {
+            text.push_str("tacho COMMAND [ARGUMENT...]\n       tacho help lists the commands\n")
+        }
+    }
+}
+
+/// The command with a name.
+fn row_named(name: &str) -> Option<&'static Row> {
+    command_table().iter().find(|row| row.name == name)
+}
+
+/// The usage of a command.
+fn push_usage(text: &mut String, row: &Row) -> Result<(), AllocError> {
+    push_words(text, row)?;
+    match input_of(row.act) {
+        Some(input) => write!(text, " < {input}\n")?,
+        None => text.push_str("\n")?,
+    }
+    if matches!(row.act, Act::AtDesk(Want::Import)) {
+        text.push_str("       ")?;
+        push_words(text, row)?;
+        text.push_str(" FILE...\n")?;
+    }
+    Ok(())
+}
+
+/// A command, and the names of its arguments.
+fn push_words(text: &mut String, row: &Row) -> Result<(), AllocError> {
+    write!(text, "tacho {}", row.name)?;
+    for word in row.words {
+        write!(text, " {word}")?;
+    }
+    Ok(())
+}
+
+/// What a command reads from its input, if it has one.
+pub(crate) fn input_of(act: Act) -> Option<&'static str> {
+    match act {
+        Act::AtDesk(Want::Register | Want::Enter) => Some("CSV"),
+        Act::Dump | Act::Holder | Act::Card | Act::Listen | Act::AtDesk(Want::Import | Want::Key) =>
+            Some("FILE"),
+        _ => None,
+    }
+}
+
+/// The description of an argument for the user.
+fn meaning_of(word: &str) -> &'static str {
+    match word {
+        "ARCHIVE" => "The path of the archive",
+        "DRIVER" | "[DRIVER]" => "The driver's number, 1 to 999999",
+        "PART" => {
+            "The blocks of the card file that are read: first (first generation), second (second generation), or both"
+        }
+        "NUMBER" => {
+            "The number of the entry or the card file, as it was printed when it was added"
+        }
+        "DATE" => "A Monday, as 2024-03-04",
+        "MONTH" => "A month, as 2024-03",
+        "KEY" => "The office's key: 8 to 64 letters, digits and hyphens",
+        "PORT" => "The port on 127.0.0.1, 1 to 65535",
+        _ => "The number of connections to answer, 1 to 1000000",
+    }
+}

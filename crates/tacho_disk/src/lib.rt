@@ -1,0 +1,13 @@
+//! What the program asks of the file system: an archive's files, why one can't be used, and card files. No contract: none can say what a
+//! file system answers.
+#![tactic(auto)]
+
+mod cards;
+mod cause;
+mod owned;
+mod watched;
+
+pub use cards::card_files;
+pub use cause::cause_of;
+pub use owned::{NotOwned, make_own};
+pub use watched::Watched;
