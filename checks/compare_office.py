@@ -4,8 +4,11 @@ with worked rows and with a slow office; and gives it bad arguments, bad files, 
 
 Standard error has to be empty but where the arguments name no command. Argument: the program. The last line is 'N passed, M failed'."""
 import contextlib
+import itertools
 import os
+import pathlib
 import random
+import re
 import shutil
 import sqlite3
 import subprocess
@@ -15,8 +18,9 @@ from typing import Any
 
 from inputs import random_cards
 from inputs.random_commands import hours_csv
-from lib import counting, office_lines, office_rows, pools, programs, rules, seeds
-from lib.files import content, write
+from lib import advice, counting, office_lines, office_rows, pools, programs, rules, seeds
+from lib.advice import without_advice
+from lib.files import TOP, content, read, write
 from lib.office import (
     CHANGES, COMMANDS, READINGS, STORE_FAILED, WITH_ANNA, WITH_DAY, Desk, make_text, name_of, of_refused_file, to_full, to_nobody,
 )
@@ -33,11 +37,10 @@ OPENING = ["migrate", *COMMANDS]
 NO_COMMANDS = [
     [],
     [""],
-    ["help"],
-    ["--help"],
-    ["-h"],
-    ["help", "sheet"],
-    ["sheet", "--help"],
+    ["help", "weigh"],
+    ["help", "sheet", "chart"],
+    ["weigh", "--help"],
+    ["version", "--version"],
     ["Init", "PATH"],
     ["line", "PATH", "17"],
     ["init"],
@@ -50,7 +53,9 @@ NO_COMMANDS = [
     ["register"],
     ["register", "PATH", "17"],
     ["import", "PATH"],
-    ["import", "PATH", "both", "17"],
+    ["import", "PATH", "both", "--all"],
+    ["import", "PATH", "both", "a.ddd", "--all"],
+    ["import", "PATH", "both", "PATH.folder"],
     ["enter", "PATH"],
     ["enter", "PATH", "17", "17"],
     ["withdraw", "PATH", "17"],
@@ -74,7 +79,7 @@ NO_COMMANDS = [
     ["file", "PATH", "17"],
     ["file", "PATH", "17", "1", "1"],
     ["drivers"],
-    ["drivers", "PATH", "17"],
+    ["drivers", "PATH", "17", "18"],
     ["stretches", "PATH"],
     ["stretches", "PATH", "17", "2024-03"],
     ["debts", "PATH"],
@@ -93,6 +98,11 @@ NO_COMMANDS = [
     ["breaches", "PATH", "--all", "17"],
     ["breaches", "PATH", b"\xff"],
 ]
+
+# Arguments that ask for help.
+HELPS = [["help"], ["--help"], ["-h"], ["help", "sheet"], ["sheet", "--help"], ["sheet", "-h", "PATH"]]
+
+FULL = pathlib.Path("/dev/full")
 
 
 # Worked rows
@@ -157,10 +167,20 @@ def of_arguments(program):
     with tempfile.TemporaryDirectory() as folder:
         desk = Desk(program, folder)
         desk.prepare(WITH_DAY)
+        os.mkdir(f"{desk.path}.folder")
         for words in NO_COMMANDS:
-            text, status, errors = programs.told_by([program, *[desk.path if word == "PATH" else word for word in words]])
-            yield f"arguments {words}", (text, status, bool(errors)), (b"", 2, True)
+            given = [word if isinstance(word, bytes) else word.replace("PATH", desk.path) for word in words]
+            text, status, errors = programs.told_by([program, *given])
+            has_usage = all(isinstance(word, str) for word in words)
+            yield f"arguments {words}", (text, status, errors.startswith(b"tacho: "), b"\nusage: tacho" in errors), (b"", 2, True, has_usage)
         yield desk.tables("after arguments that name no command")
+        for words in HELPS:
+            text, status, errors = programs.told_by([program, *words])
+            yield f"arguments {words}", (b"\n\nUsage: tacho " in text, status, errors), (True, 0, b"")
+            yield f"arguments {words} to a full device", subprocess.run(
+                [program, *words], stdout=FULL.open("wb"), stderr=subprocess.PIPE).returncode, 3
+        for words in [["--version"], ["-V"]]:
+            yield f"arguments {words}", programs.told_by([program, *words]), (programs.version_lines(), 0, b"")
 
 
 # Files
@@ -257,8 +277,57 @@ def of_inputs(program):
             source = os.open(folder, os.O_RDONLY)
             made = subprocess.run(desk.words(words.split()), stdin=source, capture_output=True)
             os.close(source)
-            yield f"a folder as input: {words}", (made.stdout, made.returncode, made.stderr), DEVICE_FAILED
+            errors = without_advice(made.args, made.stdout, made.returncode, made.stderr)
+            yield f"a folder as input: {words}", (made.stdout, made.returncode, errors), DEVICE_FAILED
         yield desk.tables("a folder as input")
+
+
+# Several card files
+
+# The files of a folder, some of which its name stands for.
+FOLDER = {
+    "b.ddd": office_rows.DAY, "C.DDD": office_rows.DAY, "d.c1b": office_rows.OTHER_DAY, "e.TgD": office_rows.DAY[:30],
+    "f.esm": office_rows.SATURDAY, "g\n\x7f.ddd": b"", "h.ddd": bytes(slow_office.INPUT_LIMIT + 1), "i.ddd.bak": office_rows.SATURDAY,
+    "j.txt": b"", "ddd": b"", ".ddd": office_rows.SATURDAY, "k/l.ddd": office_rows.SATURDAY, "m.ddd/n.ddd": office_rows.SATURDAY,
+}
+MEANT = ["C.DDD", ".ddd", "b.ddd", "d.c1b", "e.TgD", "f.esm", "g\n\x7f.ddd", "h.ddd"]
+
+
+def of_folders(program):
+    """The comparisons of imports of several files: names, folders, parts, refusals, files that can't be read, and devices that fail."""
+    with tempfile.TemporaryDirectory() as folder:
+        desk, cards = Desk(program, folder), os.path.join(folder, "cards")
+        for name, given in FOLDER.items():
+            os.makedirs(os.path.dirname(os.path.join(cards, name)), exist_ok=True)
+            write(os.path.join(cards, name), given)
+        meant = [os.path.join(cards, name) for name in sorted(MEANT, key=str.encode)]
+        desk.prepare(WITH_ANNA)
+        none = os.path.join(folder, "none.ddd")
+        lists = [[meant[0]], [cards], [f"{cards}/"], [none, meant[1]], [meant[2], cards, meant[2]], [os.path.join(cards, "j.txt")]]
+        for part, names in [("whole", lists[0]), *itertools.product(["first", "both"], lists)]:
+            files = [meant if name.rstrip("/") == cards else [name] for name in names]
+            named = [(name, content(name)) for name in itertools.chain(*files)]
+            wanted = (*desk.office.import_files(part, named), b"")
+            yield f"files by {part}: {names}", desk.run(["import", part, *names]), wanted
+            yield desk.tables(f"files by {part}: {names}")
+        lost = Desk(program, os.path.join(folder, "lost"))
+        yield "files for no archive", lost.run(["import", "both", cards]), STORE_FAILED
+    for name, run in [("a full device", to_full), ("a closed pipe", to_nobody)]:
+        with tempfile.TemporaryDirectory() as folder:
+            desk = Desk(program, folder)
+            desk.prepare(WITH_ANNA)
+            for number, given in enumerate([office_rows.DAY, office_rows.SATURDAY]):
+                write(os.path.join(folder, f"{number}.ddd"), given)
+            yield f"files to {name}", run(desk, ["import", "both", folder], b""), (3, b"")
+            desk.office.answer(["import", "both"], office_rows.DAY)
+            yield desk.tables(f"files to {name}: no file after the first line")
+
+
+def of_sentences():
+    """The comparison of the sentences for a person in the code with those of docs/FORMATS.md."""
+    sources = [os.path.join(TOP, "crates", *path) for path in (("tacho", "src", "advice.rt"), ("tacho_disk", "src", "cause.rt"))]
+    found = {text for path in sources for text in re.findall(r'"([^"\\{}]* [^"\\{}]*)"', read(path).decode())}
+    yield "the sentences in docs/FORMATS.md", sorted(set().union(*advice.sentences().values())), sorted(found)
 
 
 # Cards
@@ -350,7 +419,9 @@ def of_seed(program, seed):
 def comparisons(program: str) -> counting.Comparisons:
     program = os.path.abspath(program)
     questions: list[tuple[Any, ...]] = [(of_rows, program, name) for name in office_rows.ROWS]
-    questions += [(part, program) for part in [of_examples, of_arguments, of_files, of_rights, of_outputs, of_inputs, of_cards, of_bits]]
+    questions += [(part, program) for part in [of_examples, of_arguments, of_files, of_folders, of_rights, of_outputs, of_inputs, of_cards,
+                                                 of_bits]]
+    questions += [(of_sentences,)]
     questions += [(of_seed, program, seed) for seed in range(SEEDS)]
     yield from pools.of_questions(questions, PROCESSES)
 

@@ -25,6 +25,7 @@ from inputs import random_requests
 from lib import counting, pools, programs, seeds
 from lib.archive import of_tables, rows_at
 from lib.files import DOCS, copied
+from lib.advice import without_any
 from lib.office import WITH_ANNA, Desk
 from lib.programs import version_lines
 from lib.office_rows import (
@@ -188,6 +189,17 @@ ROWS = {
         row("GET /me/entries", "anna-key-2", told("200 OK", 0, "")),
         posted("/drivers/17/key", OFFICE, DRIVER.encode(), line("200 OK", 7, "key 17")),
     ],
+    "the line of a driver": [
+        WITH_DAY,
+        posted("/drivers", OFFICE, BERT, line("201 Created", 14, "registered 18")),
+        *[read(path, key, f"17 {HOLDER} 2024-03-04 1 0 Anna Berg\n") for path, key in (("/drivers/17", OFFICE), ("/me/driver", DRIVER))],
+        read("/drivers/18", OFFICE, f"18 {HOLDER[:-1]}4 2024-02-05 0 0 Bert\n"),
+        *[row(f"GET {path}", key, FORBIDDEN) for path, key in (("/drivers/17", DRIVER), ("/drivers/18", DRIVER), ("/me/driver", OFFICE))],
+        row("GET /drivers/19", OFFICE, line("404 Not Found", 18, "S4 unknown driver")),
+        row("GET /drivers/017", OFFICE, BAD_NUMBER),
+        row("POST /drivers/17", OFFICE, OTHER_METHOD),
+        row("GET /me/drivers", DRIVER, NOT_FOUND),
+    ],
     "the version": [
         *[read(path, key, version_lines()) for path, key in (("/version", OFFICE), ("/me/version", DRIVER))],
         *[row(f"GET {path}", key, FORBIDDEN) for path, key in (("/version", DRIVER), ("/me/version", OFFICE), ("/version", None))],
@@ -328,7 +340,7 @@ ROWS = {
         row("GET /drivers/18/owed", OFFICE, line("200 OK", 37, "EXAMINED TO 2024-02-05 00:00 unknown")),
     ],
     "paths and methods": [
-        *[row(f"GET {path}", OFFICE, NOT_FOUND) for path in ["/", "*", "/me", "/drivers/", "/drivers/17", "//drivers"]],
+        *[row(f"GET {path}", OFFICE, NOT_FOUND) for path in ["/", "*", "/me", "/drivers/", "/drivers/17/", "//drivers"]],
         row("GET /drivers//breaches", OFFICE, NOT_FOUND),
         row("GET /drivers/17/sheet/", OFFICE, NOT_FOUND),
         row("GET /drivers/17/breaches/", OFFICE, NOT_FOUND),
@@ -761,6 +773,7 @@ def of_arguments(program):
             named = {"PATH": desk.path, "NONE": f"{desk.path}.none", "PORT": str(free_port()), "TAKEN": taken}
             given = [program, "serve", *[named.get(word, word) for word in words]]
             told, code, errors = programs.told_by(given)
+            errors = without_any(given, errors)
             yield f"serve {words}", (told, code, bool(errors)), (text, status, status == 2)
             code = subprocess.run(given, stdin=subprocess.DEVNULL, stdout=full, stderr=subprocess.DEVNULL).returncode
             yield f"serve {words}, to a full device", code, 2 if status == 2 else 3
@@ -790,7 +803,9 @@ def of_unlistened(program):
         desk.prepare(WITH_ANNA)
         named = {"PATH": desk.path, "NONE": f"{desk.path}.none", "PORT": str(free_port()), "TAKEN": str(other.getsockname()[1])}
         for words, given, (text, status) in LISTENED:
-            told, code, errors = programs.told_by([program, "listen", *[named.get(word, word) for word in words]], given)
+            line = [program, "listen", *[named.get(word, word) for word in words]]
+            told, code, errors = programs.told_by(line, given)
+            errors = without_any(line, errors)
             yield f"listen {words} with {given[:20]!r}", (told, code, bool(errors)), (text, status, status == 2)
         source = os.open(folder, os.O_RDONLY)
         made = subprocess.run([program, "listen", desk.path, named["PORT"], "1"], stdin=source, capture_output=True)

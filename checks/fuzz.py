@@ -20,6 +20,7 @@ import time
 from inputs import mutated_inputs
 from inputs.mutated_inputs import NO_TEXT, PATH
 from lib import counting, programs, seeds
+from lib.files import content
 from lib.commands import COMMANDS
 from lib.office import STORE_FAILED, Desk
 from lib.office_rows import ANNA, CARD, DAY, DRIVER_HEAD, HOLDER
@@ -94,8 +95,23 @@ def of_files(program, name, files):
 
 # Command lines
 
-COUNTS = {name: len(command.arguments) for name, command in COMMANDS.items() if name not in ("serve", "listen")}
+COUNTS = {name: command.counts() for name, command in COMMANDS.items() if name not in ("serve", "listen")}
 USAGE = b"", 2
+
+
+EARLY = None, 0
+
+
+def asks_early(words):
+    """Whether the arguments ask for help or, by another name, for the version."""
+    match words:
+        case ["help" | "--help" | "-h" | "--version" | "-V"]:
+            return True
+        case ["help", name]:
+            return name in COMMANDS
+        case [name, "--help" | "-h", *_]:
+            return name in COMMANDS
+    return False
 
 
 def values_of(words):
@@ -114,11 +130,29 @@ def without_archive(name, given, part=None):
     return text.encode(), status
 
 
-def answer_to(office, words, given):
-    """What a command line prints that has these arguments, and its status."""
+def names_files(words):
+    """Whether the arguments name files to import."""
+    return words[:1] == ["import"] and len(words) > 3 and not any(word.startswith("-") for word in words[1:])
+
+
+def imported(office, path, archive, part, *names):
+    """What the import of files prints, and its status. No file is there but the archive's own."""
+    if archive != PATH:
+        return STORE_FAILED[:2]
+    return office.import_files(part, [(path, content(path)) if name == PATH else (name, None) for name in names])
+
+
+def answer_to(office, path, words, given):
+    """What a command line prints at the archive with this path that has these arguments, and its status."""
     name, *others = words or [""]
     values = values_of(others)
-    if any(NO_TEXT in word for word in words) or values is None or len(values) != COUNTS.get(name):
+    if any(NO_TEXT in word for word in words):
+        return USAGE
+    if asks_early(words):
+        return EARLY
+    if names_files(words):
+        return imported(office, path, *others)
+    if values is None or len(values) not in COUNTS.get(name, ()):
         return USAGE
     if name == "version":
         return programs.version_lines(), 0
@@ -134,9 +168,11 @@ def of_lines(program, name, office, lines):
         desk.office = office
         desk.run(["init"])
         for number, (words, given) in enumerate(lines, 1):
-            wanted = answer_to(office, words, given)
+            wanted = answer_to(office, desk.path, words, given)
             bytes_of = [desk.path if word == PATH else word.encode(errors="surrogatepass") for word in words]
             told = told_by([program, *bytes_of], given, folder)
+            if wanted == EARLY:
+                wanted = told[0] or b"help", 0
             yield Tried(f"{name}: {shown(number, words, given)}", told, (*wanted, wanted == USAGE), [answer_of(*wanted)])
         yield Tried(*desk.tables(name), [])
 

@@ -74,12 +74,9 @@ def rows_of(text: str, heading: str) -> list[tuple[str, str]]:
     return re.findall(r"^  (\S+) +(.*)$", found[1], re.MULTILINE) if found else []
 
 
-def form_by(program: str, name: str, about: str) -> str:
-    """How a command is typed, by its own help text, and what it reads by its description."""
-    usage = re.search(r"^Usage: \S+ (.*)$", helped(program, name), re.MULTILINE)
-    read_from = re.search(r" < ([A-Z]+)", about)
-    words = re.sub(r"<(\w+)>", lambda match: match[1].upper(), usage[1] if usage else "")
-    return words + (read_from[0] if read_from else "")
+def form_by(program: str, name: str) -> list[str]:
+    """How a command is typed, by its own help text."""
+    return re.findall(r"^(?:Usage:|      ) tacho (.*)$", helped(program, name), re.MULTILINE)
 
 
 def statuses(program: str) -> list[int]:
@@ -104,9 +101,11 @@ def man_page(program: str) -> Comparisons:
     yield "the last row of the program's help", [name for name, _ in rows][-1:], ["help"]
     commands = rows[:-1]
     shown = sections.get("COMMANDS", [])
-    yield "the commands of the man page", shown[:-1], [(form_by(program, name, about), about) for name, about in commands]
+    forms = [form for name, _ in commands for form in form_by(program, name)]
+    yield "the forms of the commands in the man page", [form for form, _ in shown[:-1]], forms
+    yield "the commands of the man page", [about for form, about in shown[:-1] if not form.endswith("...")], [about for _, about in commands]
     yield "the last command of the man page", [term for term, _ in shown[-1:]], ["help [COMMAND]"]
-    arguments = {word.strip("<>").upper(): about for name, _ in commands for word, about in rows_of(helped(program, name), "Arguments")}
+    arguments = {word.strip("[]"): about for name, _ in commands for word, about in rows_of(helped(program, name), "Arguments")}
     yield "the arguments of the man page", sorted(sections.get("ARGUMENTS", [])), sorted(arguments.items())
     yield "the statuses of the man page", [int(term) for term, _ in sections.get("EXIT STATUS", [])], statuses(program)
     yield "the version in the man page", f'"tacho {version()}"\n' in told.decode(), True
@@ -120,14 +119,14 @@ def table_of_commands() -> Comparisons:
     """build/commands.csv: what the script makes of the program's table, and the requests of the slow server."""
     yield "the table of commands", told_by([MANUAL, "commands"]), (read(os.path.join(TOP, "build", "commands.csv")), 0, b"")
     for who, routes in (("office", slow_server.OFFICE_ROUTES), ("driver", slow_server.DRIVER_ROUTES)):
-        made = sorted((getattr(command, who), command.method, name) for name, command in REQUESTS.items() if getattr(command, who))
+        made = sorted((path, command.method, name) for name, command in REQUESTS.items() for path in getattr(command, who))
         wanted = sorted((in_braces(path), method, "import" if name == "own" else name)
                         for path, names in routes.items() for method, name in names.items())
         yield f"the requests of the {who}", made, wanted
 
 
 def of_version(program: str) -> Comparisons:
-    """What `version` prints: the version of the sources, the schema of the archives, and the kit's own line."""
+    """What `version` prints: the version of the sources, the schema of the archives, and the kit's logic."""
     yield "the lines of version", told_by([program, "version"]), (version_lines(), 0, b"")
 
 

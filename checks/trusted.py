@@ -85,7 +85,7 @@ AUDITOR = Order(
          "tacho_time: Text Reading Calendar; tacho_sheet: Rows Words Entries Driver Number Key Text Reports Done Lines"
          " Stretches Months Form Chart Evidence Why"),
         ("the program's arguments, and what it does without an archive and at one",
-         "tacho_cli: Words Office Listen Command Dump Card Holder Version Fault"),
+         "tacho_cli: Words Asked Office Files Listen Command Dump Card Holder Version Fault"),
         ("the rest: streams, out of memory, and terms of spans and lines",
          "tacho_time: Device OrMemory Merge; tacho_line: Gains Join Walk Local"),
     ),

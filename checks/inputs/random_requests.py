@@ -13,8 +13,8 @@ REQUESTS = 40
 OFFICE_KEY = "office-key-1"
 UNKNOWN_KEYS = ["carl-key-1", "", "office-key-", "office-key-11", "OFFICE-KEY-1", "office-key-1, anna-key-1", '"office-key-1"']
 
-# By the name of a command: the office's path, and a driver's. A driver's import has a name of its own.
-PATHS = {name: command.office for name, command in commands.REQUESTS.items()} | {"own": ""}
+# By the name of a command: the office's paths, and a driver's. A driver's import has a name of its own.
+PATHS = {name: command.office for name, command in commands.REQUESTS.items()} | {"own": [""]}
 OWN_PATHS = {name: command.driver for name, command in commands.REQUESTS.items()} | {"own": commands.REQUESTS["import"].driver}
 OWN = ["own", *(name for name, command in commands.REQUESTS.items() if command.method == "GET" and command.driver)]
 POSTED = ["own", *(name for name, command in commands.REQUESTS.items() if command.method == "POST")]
@@ -27,7 +27,7 @@ OTHER_PATHS = [
     "/nothing",
     "/Drivers",
     "/drivers/",
-    "/drivers/17",
+    "/drivers/17/17",
     "/drivers//breaches",
     "/drivers/17/breaches/",
     "/drivers/17/breaches?month=2024-03",
@@ -162,8 +162,10 @@ class Requests(office_lines.Lines):
         command, *others = words
         is_input = command in WITH_INPUT
         is_own = command == "own" or command in OWN and self.chance.random() < 0.4
-        path = OWN_PATHS[command] if is_own else PATHS[command]
-        driver, word = ("", others[0]) if len(others) == 1 and "{driver}" not in PATHS[command] else (*others, "", "")[:2]
+        # The last path has the most arguments.
+        place = -1 if others else 0
+        path = OWN_PATHS[command][place] if is_own else PATHS[command][place]
+        driver, word = ("", others[0]) if len(others) == 1 and "{driver}" not in PATHS[command][place] else (*others, "", "")[:2]
         fields = [("x-key", (self.key_of(others[0]) if others else self.any_key()) if is_own else self.office_key)]
         if is_input or command in POSTED and self.chance.random() < 0.5:
             fields.append(("content-length", str(len(given))))

@@ -296,6 +296,8 @@ def done() -> Iterator[Made]:
     for what in OF_ONE:
         yield made("done", 200, f"'{what}' is asked for by a driver who has nothing, beside one who has something",
                    [*whole, ADD_BERT, asking(f"GET /me/{what}", OTHER_DRIVER)])
+    for path, key in (("/drivers/17", OFFICE), ("/drivers/18", OFFICE), ("/me/driver", DRIVER), ("/me/driver", OTHER_DRIVER)):
+        yield made("done", 200, f"the line of a driver of two is asked for at '{path}'", [*whole, ADD_BERT, asking(f"GET {path}", key)])
 
 
 def single_bytes() -> Iterator[Made]:

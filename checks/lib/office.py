@@ -6,6 +6,7 @@ from collections.abc import Callable, Iterable, Sequence
 from typing import IO, Any, Protocol
 
 from lib import office_rows
+from lib.advice import without_any
 from lib.archive import of_tables
 from lib.counting import Comparison, Comparisons
 from lib.files import lying_at, write
@@ -133,8 +134,9 @@ def of_refused_file(
 
 def run_to(desk: HasWords, words: Sequence[str], given: bytes, output: IO[bytes] | int) -> tuple[int, bytes]:
     """The status of a command whose standard output is a file that is open, and what it prints on standard error."""
-    made = subprocess.run(desk.words(words), input=given, stdout=output, stderr=subprocess.PIPE)
-    return made.returncode, made.stderr
+    line = desk.words(words)
+    made = subprocess.run(line, input=given, stdout=output, stderr=subprocess.PIPE)
+    return made.returncode, without_any(line, made.stderr)
 
 
 def to_full(desk: HasWords, words: Sequence[str], given: bytes) -> tuple[int, bytes]:

@@ -28,7 +28,7 @@ BAD: dict[str, list[list[str]]] = {
     "chart": [BAD_DRIVERS, BAD_MONTHS],
     "why": [BAD_DRIVERS, BAD_MONTHS],
     "file": [BAD_DRIVERS, BAD_NUMBERS],
-    "drivers": [],
+    "drivers": [BAD_DRIVERS],
     "check": [],
     "migrate": [],
     "overview": [BAD_MONTHS],
@@ -88,6 +88,8 @@ class Lines(random_commands.Commands):
         """A reading of a driver, or a command that changes nothing of an archive of today."""
         word, number = self.chance.choice(READINGS), self.number()
         driver = self.drivers.get(number)
+        if word == "drivers" and number > 1_000:
+            return [word, str(number)], b""
         if word in ("drivers", "check", "migrate"):
             return [word], b""
         if word in ("overview", "incidents"):

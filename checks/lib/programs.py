@@ -7,6 +7,7 @@ import tempfile
 from collections.abc import Iterator, Sequence
 from typing import Any
 
+from lib.advice import without_advice
 from lib.files import CHECKS, TOP
 
 Run = subprocess.CompletedProcess[bytes]
@@ -20,18 +21,18 @@ def answer(words: Sequence[str], given: bytes) -> tuple[str, int]:
 
 
 def told_by(words: Sequence[str | bytes], given: bytes = b"", **others: Any) -> Told:
-    """What a program prints for an input, its status, and what it prints on standard error."""
+    """What a program prints for an input, its status, and what it prints on standard error but for the sentence that belongs to a fault."""
     made = subprocess.run(words, input=given, capture_output=True, **others)
-    return made.stdout, made.returncode, made.stderr
+    return made.stdout, made.returncode, without_advice(words, made.stdout, made.returncode, made.stderr)
 
 
 @functools.cache
 def version_lines() -> bytes:
-    """What the program prints as its version: that of the file VERSION, the schema of its archives, and the kit's line."""
+    """What the program prints as its version: that of the file VERSION, the schema of its archives, and the kit's logic."""
     with open(os.path.join(TOP, "VERSION"), encoding="utf-8") as file:
         version = file.read().strip()
     kit = subprocess.run(["rt", "version"], capture_output=True, check=True).stdout
-    return f"tacho {version}\nschema 2\n".encode() + kit
+    return f"tacho {version}\nschema 2\n".encode() + kit.split(b" ", 1)[1]
 
 
 def unasked(words: Sequence[str]) -> tuple[bytes, int]:

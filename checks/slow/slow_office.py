@@ -483,7 +483,7 @@ class Office:
             "entries": lambda: self.entries(*others),
             "file": lambda: self.file(*others),
             "files": lambda: self.files(*others),
-            "drivers": self.drivers,
+            "drivers": lambda: self.drivers(*others),
             "stretches": lambda: self.stretches(*others),
             "debts": lambda: self.debts(*others),
             "overview": lambda: self.overview(*others),
@@ -500,6 +500,18 @@ class Office:
         except slow_reader.Fault as fault:
             return f"{fault}\n".encode(), 1
         return told if isinstance(told, bytes) else told.encode(), 0
+
+    def import_files(self, part: str, files: Sequence[tuple[str, bytes | None]]) -> tuple[bytes, int]:
+        """What `import` prints with files, by their names and what was read of them (nothing where they can't be read), and its status."""
+        if part not in slow_archive.PARTS:
+            return b"P1 bad part\n", 1
+        text, answers = b"", []
+        for name, given in files:
+            told, status = (b"X2 device failed\n", 1) if given is None else self.answer(["import", part], given)
+            answers.append("refused" if status else told.split(b" ")[0].decode())
+            text += re.sub(rb"[\0-\x1f\x7f]", b"?", name.encode()) + b": " + told
+        counts = ", ".join(f"{answers.count(kind)} {kind}" for kind in ("added", "repeated", "refused"))
+        return text + f"{counts}\n".encode(), int("refused" in answers)
 
     def driver(self, number: str) -> slow_archive.Driver:
         """The driver whose number an argument is: N1, S4."""
@@ -609,14 +621,11 @@ class Office:
         """A line for each card file of a driver: N1, S4."""
         return "".join(file_line(place, download) for place, download in enumerate(self.driver(number).downloads, 1))
 
-    def drivers(self) -> str:
-        """A line for each driver."""
-        lines = [
-            f"{driver.number} {driver.holder.hex()} {slow_reader.minute_text(1440 * driver.base)[:10]} {len(driver.downloads)} "
-            f"{len(driver.entries)} {driver.name.decode()}\n"
-            for _, driver in sorted(self.archive.drivers.items())
-        ]
-        return "".join(lines)
+    def drivers(self, number: str = "") -> str:
+        """A line for each driver, or for the one with a number: N1, S4."""
+        listed = [self.driver(number)] if number else [driver for _, driver in sorted(self.archive.drivers.items())]
+        return "".join(f"{driver.number} {driver.holder.hex()} {slow_reader.minute_text(1440 * driver.base)[:10]} {len(driver.downloads)} "
+                       f"{len(driver.entries)} {driver.name.decode()}\n" for driver in listed)
 
     def stretches(self, number: str) -> str:
         """The breaches of a driver by stretches."""

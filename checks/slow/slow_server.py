@@ -63,6 +63,7 @@ FAULTS = {
 # By a path and a method: the command of the slow office. Its arguments are in braces.
 OFFICE_ROUTES = {
     "/drivers": {"POST": "register", "GET": "drivers"},
+    "/drivers/{n}": {"GET": "drivers"},
     "/cards/{part}": {"POST": "import"},
     "/drivers/{n}/entries": {"POST": "enter", "GET": "entries"},
     "/drivers/{n}/withdraw/{k}": {"POST": "withdraw"},
@@ -101,6 +102,7 @@ DRIVER_ROUTES = {
     "/me/why/{month}": {"GET": "why"},
     "/me/chart/{month}": {"GET": "chart"},
     "/me/version": {"GET": "version"},
+    "/me/driver": {"GET": "drivers"},
 }
 ROUTES = {**OFFICE_ROUTES, **DRIVER_ROUTES}
 WITH_INPUT = ["register", "import", "own", "enter", "key"]

@@ -1,0 +1,48 @@
+"""The sentences for a person on standard error, by the codes of faults, as docs/FORMATS.md has them."""
+import functools
+import os
+import re
+from collections.abc import Sequence
+
+from lib.files import TOP
+
+# Commands without an archive, or that look at another input before it: their faults have no sentence. A check prints what is unsound.
+WITHOUT = {b"dump", b"holder", b"card", b"serve", b"listen"}
+
+# The line of a fault: its code, or that the store failed.
+CODE = re.compile(rb"^([CEMNPSXZ]\d+) .*\n\Z", re.MULTILINE)
+
+
+@functools.cache
+def sentences() -> dict[str, set[str]]:
+    """The sentences of the table in docs/FORMATS.md by their codes."""
+    with open(os.path.join(TOP, "docs", "FORMATS.md"), encoding="utf-8") as file:
+        page = file.read()
+    table = page[page.index("## All lines of faults") :]
+    found: dict[str, set[str]] = {}
+    for codes, said in re.findall(r"^\| ([^|]+?) \|[^|]*\| ([^|]+?) \|$", table, re.MULTILINE):
+        first, _, last = codes.partition(" to ")
+        numbers = range(int(first[1:]), int(last[1:] or first[1:]) + 1) if first[1:].isdigit() else []
+        for number in numbers:
+            found.setdefault(f"{first[0]}{number}", set()).add(said)
+    return found
+
+
+def without_advice(words: Sequence[str | bytes], text: bytes, status: int, errors: bytes) -> bytes:
+    """What a program prints on standard error but for the sentence that belongs to the fault whose line ends its text. Something else than
+    nothing if there should be a sentence and there is none, or another."""
+    bytes_of = [word.encode(errors="surrogateescape") if isinstance(word, str) else word for word in words]
+    line = CODE.search(text)
+    if status not in (1, 3) or line is None or len(bytes_of) < 3 or bytes_of[1] in WITHOUT:
+        return errors
+    return without_known(bytes_of[2], sentences().get(line[1].decode(), set()), errors) if errors else b"no sentence for a person"
+
+
+def without_known(path: bytes, known: set[str], errors: bytes) -> bytes:
+    """What is printed on standard error but for one of these sentences on the archive with a path."""
+    return b"" if errors in {b"tacho: %b: %b\n" % (path, sentence.encode()) for sentence in known} else errors
+
+
+def without_any(words: Sequence[str], errors: bytes) -> bytes:
+    """What a program prints on standard error but for any sentence, where the line of the fault isn't known."""
+    return without_known(words[2].encode(), set().union(*sentences().values()), errors) if len(words) > 2 else errors
