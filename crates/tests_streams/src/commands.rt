@@ -235,7 +235,7 @@ fn writers_fail_at_each_call(rt: HostRuntime) -> Result<(), Fail> {
 }
 
 /// Arguments, and the job that they name.
-static JOBS: [(&[&str], Job<'static>); 31] = [
+static JOBS: [(&[&str], Job<'static>); 32] = [
     (&["tacho", "dump"], Job::Dump),
     (&["tacho", "holder"], Job::Holder),
     (&["tacho", "card", "first"], Job::Card { part: "first" }),
