@@ -87,7 +87,7 @@ def input_of(source: str, act: str) -> str:
     if body is None:
         raise Stop(f"{HELP} has no function input_of")
     name = re.sub(r"\W+$", "", act).split("(")[-1]
-    for names, read in re.findall(r'((?:[^=]|\n)*?)=> Some\("([A-Z]+)"\)', body[0]):
+    for names, read in re.findall(r'((?:[^=]|\n)*?)=>\s+Some\("([A-Z]+)"\)', body[0]):
         if re.search(rf"::{name}\b", names):
             return read
     return ""

@@ -65,7 +65,7 @@ def sections_of(page: str) -> dict[str, list[tuple[str, str]]]:
 
 def helped(program: str, *words: str) -> str:
     """What the program prints for `help`."""
-    return told_by([program, "help", *words])[2].decode()
+    return told_by([program, "help", *words])[0].decode()
 
 
 def rows_of(text: str, heading: str) -> list[tuple[str, str]]:
