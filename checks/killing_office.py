@@ -23,6 +23,7 @@ from typing import Any
 
 from inputs import random_commands, random_requests
 from lib import counting, files, killing, office_lines
+from lib.advice import without_begun, without_sentence
 from lib.archive import rows_of, rows_of_office, tables
 from lib.office import CREATED, STORE_FAILED, Desk, copy_of, name_of
 from lib.server import ENDED, Serving, received, sent
@@ -56,11 +57,12 @@ class KilledDesk(Desk):
     # Ends
 
     def started(self, path, words, given):
-        """The program, which runs with arguments at a file. What it prints goes to a file, also that to standard error."""
+        """The program, which runs with arguments at a file. What it prints goes to two files."""
         files.write(os.path.join(self.aside, "input"), given)
-        with open(os.path.join(self.aside, "input"), "rb") as source, open(os.path.join(self.aside, "output"), "wb") as target:
+        with (open(os.path.join(self.aside, "input"), "rb") as source, open(os.path.join(self.aside, "output"), "wb") as target,
+              open(os.path.join(self.aside, "errors"), "wb") as errors):
             line = [self.program, words[0], path, *words[1:]]
-            return subprocess.Popen(line, stdin=source, stdout=target, stderr=subprocess.STDOUT)
+            return subprocess.Popen(line, stdin=source, stdout=target, stderr=errors)
 
     def measured(self, words, given):
         """How long a command takes that nobody ends, in seconds, and how often it changes its files: at a copy of them."""
@@ -75,12 +77,15 @@ class KilledDesk(Desk):
         time.sleep(self.chance.choice([0, self.chance.uniform(0, LATER)]))
 
     def ended(self, words, given):
-        """What a command prints that is ended at a random moment, and its status."""
+        """What a command prints that is ended at a random moment, with what it prints on standard error but for the sentence of its fault,
+        and its status."""
         seconds, count = self.measured(words, given)
         with self.started(self.path, words, given) as running:
             self.wait(running, seconds, count)
             killing.end(running)
-        return files.content(os.path.join(self.aside, "output")), running.returncode
+        text, errors, status = (*(files.content(os.path.join(self.aside, name)) for name in ("output", "errors")), running.returncode)
+        left = without_begun(self.path, errors) if status == KILLED else without_sentence(self.path.encode(), text, status, errors)
+        return text + left, status
 
     def served(self, path, requests, key, watching):
         """The replies to requests by the program as a server, as far as they come, and how it ends; and what is answered by a function that

@@ -29,6 +29,7 @@ from slow import slow_server
 
 PROCESSES = 4  # each waits for its program most of the time
 STOPPED = b"stopped\n"
+LOST = "its file or its log was moved, replaced or cut during service, or its disk failed"
 BECOMES = ": what becomes of the server"
 
 # How many calls of the disk fail, and how many replies may be 503 then.
@@ -278,6 +279,7 @@ def of_lost_files(program, name):
             yield f"{name}: no reply after", serving.ask([ENTRIES], False), b""
             serving.lost = None
             yield f"{name}: the end", serving.end(), STORE_FAILED
+            yield f"{name}: the sentence", serving.errors, f"tacho: {desk.path}: {LOST}\n".encode()
 
 
 CHANGED_BASES = 300  # requests of a server whose files stay

@@ -20,6 +20,7 @@ import time
 from typing import Any
 
 from lib import counting
+from lib.advice import without_sentence
 from lib.office import WITH_ANNA, Desk
 from lib.office_rows import DAY, LARGEST_DAY, LIMIT
 from lib.server import (
@@ -276,7 +277,9 @@ def of_no_files(program):
         yield "before there is no file", serving.ask([OWN], False), BREACHES
         with without_files(serving.process), asked(serving):
             (text, errors), seconds = timed(serving.process.communicate, None, LONGEST)
-        yield "without files: the end", (text, serving.process.returncode, errors), (*NO_PORT, b"")
+        status = serving.process.returncode
+        errors = without_sentence(serving.path.encode(), text, status, errors)
+        yield "without files: the end", (text, status, errors), (*NO_PORT, b"")
         yield "without files: the seconds", within(seconds, FILES), True
 
 

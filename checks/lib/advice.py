@@ -2,7 +2,7 @@
 import functools
 import os
 import re
-from collections.abc import Sequence
+from collections.abc import Iterable, Sequence
 
 from lib.files import TOP
 
@@ -28,21 +28,44 @@ def sentences() -> dict[str, set[str]]:
     return found
 
 
-def without_advice(words: Sequence[str | bytes], text: bytes, status: int, errors: bytes) -> bytes:
+def lines_on(path: bytes, known: Iterable[str]) -> list[bytes]:
+    """The lines of sentences on the archive with a path."""
+    return [b"tacho: %b: %b\n" % (path, sentence.encode()) for sentence in known]
+
+
+def without_known(path: bytes, known: Iterable[str], errors: bytes) -> bytes:
+    """What is printed on standard error but for one of these sentences at its end."""
+    return next((errors.removesuffix(line) for line in lines_on(path, known) if errors.endswith(line)), errors)
+
+
+def without_sentence(path: bytes, text: bytes, status: int, errors: bytes) -> bytes:
     """What a program prints on standard error but for the sentence that belongs to the fault whose line ends its text. Something else than
     nothing if there should be a sentence and there is none, or another."""
-    bytes_of = [word.encode(errors="surrogateescape") if isinstance(word, str) else word for word in words]
     line = CODE.search(text)
-    if status not in (1, 3) or line is None or len(bytes_of) < 3 or bytes_of[1] in WITHOUT:
+    if status not in (1, 3) or line is None:
         return errors
-    return without_known(bytes_of[2], sentences().get(line[1].decode(), set()), errors) if errors else b"no sentence for a person"
+    left = without_known(path, sentences().get(line[1].decode(), set()), errors)
+    return left if left != errors else errors + b"no sentence for a person"
 
 
-def without_known(path: bytes, known: set[str], errors: bytes) -> bytes:
-    """What is printed on standard error but for one of these sentences on the archive with a path."""
-    return b"" if errors in {b"tacho: %b: %b\n" % (path, sentence.encode()) for sentence in known} else errors
+def without_advice(words: Sequence[str | bytes], text: bytes, status: int, errors: bytes) -> bytes:
+    """The same of a program with these arguments."""
+    bytes_of = [word.encode(errors="surrogateescape") if isinstance(word, str) else word for word in words]
+    if len(bytes_of) < 3 or bytes_of[1] in WITHOUT:
+        return errors
+    return without_sentence(bytes_of[2], text, status, errors)
 
 
 def without_any(words: Sequence[str], errors: bytes) -> bytes:
     """What a program prints on standard error but for any sentence, where the line of the fault isn't known."""
-    return without_known(words[2].encode(), set().union(*sentences().values()), errors) if len(words) > 2 else errors
+    return without_known(words[2].encode(), all_sentences(), errors) if len(words) > 2 else errors
+
+
+def without_begun(path: str, errors: bytes) -> bytes:
+    """What a program that was killed has printed on standard error but for the beginning of a sentence."""
+    return b"" if any(line.startswith(errors) for line in lines_on(path.encode(), all_sentences())) else errors
+
+
+def all_sentences() -> set[str]:
+    """All sentences of the table."""
+    return set().union(*sentences().values())

@@ -11,6 +11,7 @@ import time
 from collections import namedtuple
 from collections.abc import Iterable, Sequence
 
+from lib.advice import without_sentence
 from lib.archive import of_tables
 from lib.counting import Comparison, Comparisons
 from lib.office import Desk
@@ -134,6 +135,8 @@ class Serving:
     def __init__(self, program: str, path: str, key: str, count: int, environment: dict[str, str] | None = None,
                  listens: bool = False) -> None:
         self.port = free_port()
+        self.path = path
+        self.errors = b""
         numbers = [str(self.port), str(count)]
         words = [program, "listen", path, *numbers] if listens else [program, "serve", path, key, *numbers]
         self.process = subprocess.Popen(words, env={**os.environ, **(environment or {})}, stdout=subprocess.PIPE, stderr=subprocess.PIPE,
@@ -179,14 +182,15 @@ class Serving:
             return self.lost
 
     def end(self) -> Told | str:
-        """What the program has printed, and its status, after its last connection."""
+        """What the program has printed, and its status, after its last connection; on standard error but for the sentence of its fault."""
         if self.lost:
             return self.lost
         try:
-            text, errors = self.process.communicate(timeout=SECONDS)
+            text, self.errors = self.process.communicate(timeout=SECONDS)
         except subprocess.TimeoutExpired as fault:
             return repr(fault)
-        return text, self.process.returncode, errors
+        status = self.process.returncode
+        return text, status, without_sentence(self.path.encode(), text, status, self.errors)
 
 
 # Comparisons

@@ -10,13 +10,18 @@ const NO_MEMORY: &str = "memory ran out: end other programs and try again";
 /// The sentence for a card file with a fault.
 const NO_CARD: &str = "this is no whole card file: read the card again";
 
-/// The sentence if the port of a server can't be had.
-pub const NO_PORT: &str = "the port is taken, or may not be used";
+/// The sentence if a server can't have its port, or no connections there.
+pub const NO_PORT: &str =
+    "the port is taken or may not be used, or no connection can be accepted there";
 
-/// The sentence for a fault. If the store failed, it is the probable cause. docs/FORMATS.md lists them, 'All lines of faults'.
-pub fn advice_on(fault: Fault, cause: &'static str) -> &'static str {
+/// The sentence if the store has failed under a server, or the paths of its files no longer find them.
+pub const LOST: &str =
+    "its file or its log was moved, replaced or cut during service, or its disk failed";
+
+/// The sentence for a fault. docs/FORMATS.md lists them, 'All lines of faults'.
+pub fn advice_on(fault: Fault) -> &'static str {
     match fault {
-        Fault::Told(ToldFault::Store(fault)) => advice_on_store(fault, cause),
+        Fault::Told(ToldFault::Store(fault)) => advice_on_store(fault),
         Fault::Told(told) => advice_on_told(told),
         Fault::Device => "standard input can't be read, or standard output can't be written",
         Fault::Memory => NO_MEMORY,
@@ -39,7 +44,7 @@ fn advice_on_told(fault: ToldFault) -> &'static str {
 }
 
 /// The sentence for a refusal of the archive, or if the store failed.
-fn advice_on_store(fault: StoreFault, cause: &'static str) -> &'static str {
+fn advice_on_store(fault: StoreFault) -> &'static str {
     match fault {
         StoreFault::DriverTaken => "another driver has this number; tacho drivers lists them",
         StoreFault::KeyTaken => "another driver has this key: make a new one",
@@ -56,7 +61,7 @@ fn advice_on_store(fault: StoreFault, cause: &'static str) -> &'static str {
         StoreFault::NotMonday => "the base is a Monday",
         StoreFault::UnknownDownload => "the driver has no such card file; tacho files lists them",
         StoreFault::Card(_) => NO_CARD,
-        StoreFault::Store => cause,
+        StoreFault::Store => LOST,
         StoreFault::OldSchema => {
             "the archive is of an earlier version: make a backup, then tacho migrate"
         }

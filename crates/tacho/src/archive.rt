@@ -5,7 +5,7 @@
 
 ghost use Rattle.std.specs.Prelude.{◌≡◌, false};
 
-use crate::advice::{NO_PORT, advice_on};
+use crate::advice::{LOST, NO_PORT, advice_on};
 use sqlite::{Alter, Connection, Error, ErrorCode, File, FileStore};
 use std::alloc::Global;
 use std::fs;
@@ -43,13 +43,24 @@ pub enum Work<'a> {
     Serve { key: &'a str, port: u16, count: u32 },
 }
 
-/// How a job ends: the line to print once the file is closed (empty if the job has printed everything), the status, and the fault, for which
-/// a person gets a sentence.
+/// For what a person gets a sentence.
+#[derive(Clone, Copy)]
+enum Cause {
+    /// Nothing failed.
+    None,
+    Fault(Fault),
+    /// A server can't have its port, or no connections there.
+    Port,
+    /// The store failed under a server, or the paths of its files no longer find them.
+    Lost,
+}
+
+/// How a job ends: the line to print once the file is closed (empty if the job has printed everything), the status, and why.
 #[derive(Clone, Copy)]
 struct Ending {
     line: &'static str,
     status: u8,
-    fault: Option<Fault>,
+    cause: Cause,
 }
 
 /// An ending with nothing further to print.
@@ -57,7 +68,7 @@ fn with_status(status: u8) -> Ending {
     Ending {
         line: "",
         status,
-        fault: None,
+        cause: Cause::None,
     }
 }
 
@@ -79,7 +90,7 @@ fn refused(fault: StoreFault) -> Ending {
     Ending {
         line,
         status,
-        fault: Some(Fault::from(fault)),
+        cause: Cause::Fault(Fault::from(fault)),
     }
 }
 
@@ -168,7 +179,10 @@ fn do_task<S: Alter + Drop>(
     let ending = Ending {
         line: "",
         status: tell_answer(&mut writer, &answer),
-        fault: answer.err(),
+        cause: match answer.err() {
+            Some(fault) => Cause::Fault(fault),
+            None => Cause::None,
+        },
     };
     (ending, archive.close())
 }
@@ -209,9 +223,9 @@ fn import_all<S: Alter + Drop>(
     let ending = Ending {
         line: "",
         status,
-        fault: match part_of(part.as_bytes()) {
-            Some(_) => None,
-            None => Some(Fault::Told(ToldFault::Part)),
+        cause: match part_of(part.as_bytes()) {
+            Some(_) => Cause::None,
+            None => Cause::Fault(Fault::Told(ToldFault::Part)),
         },
     };
     (ending, archive.close())
@@ -250,9 +264,12 @@ fn serve_requests<S: Alter + Drop>(
         Err(ServeFault::Device) => Ending {
             line: "X2 device failed\n",
             status: 3,
-            fault: Some(Fault::Device),
+            cause: Cause::Port,
         },
-        Err(ServeFault::Store) => refused(StoreFault::Store),
+        Err(ServeFault::Store) => Ending {
+            cause: Cause::Lost,
+            ..refused(StoreFault::Store)
+        },
         Err(ServeFault::Memory) => refused(StoreFault::Memory),
     };
     (ending, archive.close())
@@ -309,14 +326,16 @@ fn announce(rt: &HostRuntime, path: &str) {
     }
 }
 
-/// Writes the sentence for a fault on standard error.
-fn advise(rt: &HostRuntime, path: &str, work: Work<'_>, fault: Fault) {
-    let sentence = match (fault, work) {
-        (Fault::Told(ToldFault::Store(StoreFault::Store)), _) => {
-            advice_on(fault, cause_of(rt, path, matches!(work, Work::Create)))
+/// Writes the sentence for a cause on standard error.
+fn advise(rt: &HostRuntime, path: &str, work: Work<'_>, cause: Cause) {
+    let sentence = match cause {
+        Cause::None => return,
+        Cause::Port => NO_PORT,
+        Cause::Lost => LOST,
+        Cause::Fault(Fault::Told(ToldFault::Store(StoreFault::Store))) => {
+            cause_of(rt, path, matches!(work, Work::Create))
         }
-        (Fault::Device, Work::Serve { .. }) => NO_PORT,
-        _ => advice_on(fault, ""),
+        Cause::Fault(fault) => advice_on(fault),
     };
     let _ = eprint!(rt; "tacho: {path}: {sentence}\n");
 }
@@ -328,7 +347,7 @@ pub fn at_file(rt: &HostRuntime, path: &str, work: Work<'_>) -> u8 {
     let Ending {
         line,
         status,
-        fault,
+        cause,
     } = match open_file(rt, path, work) {
         Ok(conn) => {
             let (ending, conn) = at_connection(rt, conn, path, work);
@@ -339,8 +358,7 @@ pub fn at_file(rt: &HostRuntime, path: &str, work: Work<'_>) -> u8 {
         }
         Err(fault) => refused(fault),
     };
-    if let Some(fault) = fault {
-        advise(rt, path, work, fault);
-    }
-    tell(rt, line, status)
+    let status = tell(rt, line, status);
+    advise(rt, path, work, cause);
+    status
 }
