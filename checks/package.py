@@ -2,7 +2,8 @@
 """Makes the packages of the program (build/package) twice, under different circumstances, and compares their bytes, their digests, and the
 owners, modes and times in them. Installs the Debian package by dpkg in a root of its own, runs the tour there as the user `tacho`, updates
 the package, removes it and purges it, with and without an archive, and compares what is left. Runs the tour from the tar file. Compares the
-man page with what the program prints for `tacho help` and `tacho help COMMAND`, and CHANGELOG.md and `tacho version` with VERSION.
+man page with what the program prints for `tacho help` and `tacho help COMMAND`, the commands and requests that README.md and
+docs/FORMATS.md list with build/commands.csv, and CHANGELOG.md and `tacho version` with VERSION.
 
 Argument: the program. Where dpkg-deb isn't installed, only the man page and CHANGELOG.md are looked at. Only root can install the package.
 The last line is 'N passed, M failed'."""
@@ -19,7 +20,7 @@ import tempfile
 import time
 
 from lib import counting, root
-from lib.commands import REQUESTS
+from lib.commands import COMMANDS, REQUESTS
 from lib.counting import Comparisons
 from lib.files import EXAMPLES, TOP, content, read, write
 from lib.programs import told_by, version_lines
@@ -123,6 +124,48 @@ def table_of_commands() -> Comparisons:
         wanted = sorted((in_braces(path), method, "import" if name == "own" else name)
                         for path, names in routes.items() for method, name in names.items())
         yield f"the requests of the {who}", made, wanted
+
+
+# An item of a list in a document, the names of commands in it, and its request.
+ITEM = re.compile(r"^- (.*(?:\n  .*)*)", re.MULTILINE)
+NAMED = re.compile(r"`([a-z]+)[^`]*`")
+METHOD = re.compile(r"(GET|POST) (`.*)", re.DOTALL)
+
+
+def items_of(page: str, heading: str) -> list[str]:
+    """The items of the lists below a heading of a page."""
+    return ITEM.findall(page.split(f"\n{heading}\n")[1].split("\n#")[0])
+
+
+def requests_in(item: str) -> set[tuple[str, str]]:
+    """The methods and paths of the requests that an item names, also those whose name alone is another, as in `the same with`."""
+    found = METHOD.match(item)
+    if found is None:
+        return set()
+    method, text = found.groups()
+    paths = re.findall(r"`(/[^`]*)`", text)
+    names = re.findall(r"[a-z]+", " ".join(re.findall(r"with ((?:`[a-z]+`(?:, | and )?)+)", text)).replace("and", ""))
+    others = [re.sub(r"/[a-z]+(/[\d-]+)?$", rf"/{name}\1", path) for path in paths for name in names]
+    return {(method, place_of(path)) for path in [*paths, *others]}
+
+
+def place_of(path: str) -> str:
+    """A path of examples with names of its variable parts."""
+    path = path.replace("/17", "/{driver}").replace("/both", "/{word}")
+    return re.sub(r"/\d[\d-]*$", "/{word}", path)
+
+
+def lists_in_documents() -> Comparisons:
+    """The commands and the requests that docs/FORMATS.md lists, and the commands that README.md names: those of build/commands.csv."""
+    formats, readme = (read(os.path.join(TOP, name)).decode() for name in ("docs/FORMATS.md", "README.md"))
+    begun = [re.match(r"(?:`[^`]*`(?:, )?)+", item) for item in items_of(formats, "## Commands")]
+    named = {name for found in begun if found for name in NAMED.findall(found[0])}
+    yield "the commands that FORMATS lists", sorted(named), sorted({*COMMANDS, "help"})
+    shown = readme.split("\nThe commands (docs/FORMATS.md")[1].split("\n#")[0]
+    yield "the commands that README names", sorted(set(re.findall(r"`([a-z]+)`", shown))), sorted({*COMMANDS, "help"})
+    listed = {place for item in items_of(formats, "### What a driver can ask for, and what only the office") for place in requests_in(item)}
+    made = {(command.method, path) for command in REQUESTS.values() for path in [*command.office, *command.driver]}
+    yield "the requests that FORMATS lists", sorted(listed), sorted(made)
 
 
 def of_version(program: str) -> Comparisons:
@@ -348,6 +391,7 @@ def comparisons(program: str) -> Comparisons:
     program = os.path.abspath(program)
     yield from man_page(program)
     yield from table_of_commands()
+    yield from lists_in_documents()
     yield from of_version(program)
     yield from change_log()
     if not shutil.which("dpkg-deb"):
