@@ -19,7 +19,7 @@ from typing import Any
 from inputs import random_cards
 from inputs.random_commands import hours_csv
 from lib import advice, counting, office_lines, office_rows, pools, programs, rules, seeds
-from lib.advice import without_advice
+from lib.advice import without_advice, without_known
 from lib.files import TOP, content, read, write
 from lib.office import (
     CHANGES, COMMANDS, READINGS, STORE_FAILED, WITH_ANNA, WITH_DAY, Desk, make_text, name_of, of_refused_file, to_full, to_nobody,
@@ -323,6 +323,46 @@ def of_folders(program):
             yield desk.tables(f"files to {name}: no file after the first line")
 
 
+# At a terminal
+
+READS = b"tacho: reading standard input; end it with Ctrl-D\n"
+
+
+def at_terminal(line, typed=None):
+    """What a command prints on standard output, and on standard error, which is a terminal; so is its input, where something is typed."""
+    (keyboard, keys), (screen, shown) = os.openpty(), os.openpty()
+    if typed is not None:
+        os.write(keyboard, typed + b"\x04")
+    made = subprocess.run(line, stdin=subprocess.DEVNULL if typed is None else keys, stdout=subprocess.PIPE, stderr=shown)
+    os.close(shown)
+    errors = b""
+    with contextlib.suppress(OSError):  # at the end of what is there
+        while piece := os.read(screen, 1000):
+            errors += piece
+    for descriptor in (keyboard, keys, screen):
+        os.close(descriptor)
+    return made.stdout, errors.replace(b"\r\n", b"\n")
+
+
+def of_terminals(program):
+    """The comparisons of commands at a terminal: they say that they wait for input, and that they open a large file."""
+    with tempfile.TemporaryDirectory() as folder:
+        desk = Desk(program, folder)
+        desk.prepare(WITH_ANNA)
+        for words, typed in [("drivers", b""), ("key 17", b"anna-key-3\n"), ("breaches 17", b"")]:
+            text, _ = desk.office.answer(words.split(), typed)
+            yield f"at a terminal: {words}", at_terminal(desk.words(words.split()), typed), (text, READS if typed else b"")
+        yield "at a terminal: key from elsewhere", READS in at_terminal(desk.words(["key", "17"]))[1], False
+        yield desk.tables("at a terminal")
+        large = os.path.join(folder, "large.db")
+        for length, said in [(19_999_999, b""), (25_000_000, b"tacho: opening %b, 25 MB\n" % large.encode())]:
+            with open(large, "wb") as file:
+                file.truncate(length)
+            text, errors = at_terminal([program, "drivers", large])
+            yield f"at a terminal: an archive of {length} bytes", (text, without_known(large.encode(), ["it is not an archive"], errors)), \
+                (STORE_FAILED[0], said)
+
+
 def of_sentences():
     """The comparison of the sentences for a person in the code with those of docs/FORMATS.md."""
     sources = [os.path.join(TOP, "crates", *path) for path in (("tacho", "src", "advice.rt"), ("tacho_disk", "src", "cause.rt"))]
@@ -419,8 +459,8 @@ def of_seed(program, seed):
 def comparisons(program: str) -> counting.Comparisons:
     program = os.path.abspath(program)
     questions: list[tuple[Any, ...]] = [(of_rows, program, name) for name in office_rows.ROWS]
-    questions += [(part, program) for part in [of_examples, of_arguments, of_files, of_folders, of_rights, of_outputs, of_inputs, of_cards,
-                                                 of_bits]]
+    questions += [(part, program) for part in [of_examples, of_arguments, of_files, of_folders, of_terminals, of_rights, of_outputs, of_inputs,
+                                                 of_cards, of_bits]]
     questions += [(of_sentences,)]
     questions += [(of_seed, program, seed) for seed in range(SEEDS)]
     yield from pools.of_questions(questions, PROCESSES)
