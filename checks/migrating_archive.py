@@ -21,6 +21,7 @@ from typing import Any
 
 from inputs import random_commands
 from lib import counting, files, killing, office_lines, office_rows, old_archive, pools, programs
+from lib.advice import without_any
 from lib.archive import CARRIED_TABLES, of_tables, rows_at, rows_of, sound
 from lib.files import EXAMPLES
 from lib.office import CHANGES, COMMANDS, STORE_FAILED, WITH_ANNA, Desk, of_refused_file, to_full, to_nobody
@@ -126,9 +127,10 @@ def make_by_text(path, _):
 
 
 def ended(words):
-    """What a program prints, or that it didn't end."""
+    """What a program prints, but for a sentence on its archive, or that it didn't end."""
     try:
-        return programs.told_by(words, timeout=SECONDS)
+        text, status, errors = programs.told_by(words, timeout=SECONDS)
+        return text, status, without_any(words, errors)
     except subprocess.TimeoutExpired as fault:
         return repr(fault)
 
