@@ -2,6 +2,7 @@ pub mod Words
 pub mod Rows
 pub mod Entries
 pub mod Lines
+pub mod Fault
 pub mod Text
 pub mod Number
 pub mod Driver

@@ -113,3 +113,5 @@ fault_line (fault.Sheet f) = sheet_line f
 fault_line fault.Number = codes "N1 bad number\n"
 fault_line fault.Part = codes "P1 bad part\n"
 fault_line fault.TooLarge = codes "X1 too large\n"
+fault_line fault.Device = codes "X2 device failed\n"
+fault_line fault.Memory = no_memory_line

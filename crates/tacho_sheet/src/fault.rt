@@ -1,6 +1,7 @@
+use std::alloc::AllocError;
 use tacho_card::CardFault;
 use tacho_state::{Column, StoreFault};
-use tacho_time::TimeFault;
+use tacho_time::{ReadFault, TimeFault};
 use thiserror::Error;
 
 /// The name of an activity that the archive leaves out.
@@ -54,12 +55,16 @@ pub enum SheetFault {
     Memory,
 }
 
-/// Every fault that has a line.
+/// Why something was not done. Each fault has a line.
 #[derive(Clone, Copy, Debug, PartialEq, Eq)]
 pub enum Fault {
+    /// A date, a month or a minute can't be read.
     Time(TimeFault),
+    /// A card file has a fault, other than that memory ran out.
     Card(CardFault),
+    /// The archive refused, or the store failed.
     Store(StoreFault),
+    /// A text of CSV or a key has a fault, other than that memory ran out.
     Sheet(SheetFault),
     /// N1: the number of a driver, an entry or a download is out of its limits, or isn't a number.
     Number,
@@ -67,4 +72,87 @@ pub enum Fault {
     Part,
     /// X1: the input is over the limit.
     TooLarge,
+    /// X2: the reader or the writer failed.
+    Device,
+    /// M1: out of memory.
+    Memory,
+}
+
+impl From<ReadFault> for Fault {
+    ghost use Rattle.std.specs.Prelude.{◌≡◌};
+    ghost use Rattle.tacho_sheet.specs.Fault.{read_fault};
+
+    ghost from_gives = { λ fault gives. gives ≡ read_fault fault };
+
+    fn from(fault: ReadFault) -> Fault {
+        match fault {
+            ReadFault::TooLarge => Fault::TooLarge,
+            ReadFault::Failed => Fault::Device,
+            ReadFault::Memory => Fault::Memory,
+        }
+    }
+}
+
+impl From<CardFault> for Fault {
+    ghost use Rattle.std.specs.Prelude.{◌≡◌};
+    ghost use Rattle.tacho_sheet.specs.Fault.{card_fault};
+
+    ghost from_gives = { λ fault gives. gives ≡ card_fault fault };
+
+    fn from(fault: CardFault) -> Fault {
+        match fault {
+            CardFault::Memory => Fault::Memory,
+            fault => Fault::Card(fault),
+        }
+    }
+}
+
+impl From<StoreFault> for Fault {
+    ghost use Rattle.std.specs.Prelude.{◌≡◌};
+    ghost use Rattle.tacho_sheet.specs.Fault.{fault_of_store};
+
+    ghost from_gives = { λ fault gives. gives ≡ fault_of_store fault };
+
+    fn from(fault: StoreFault) -> Fault {
+        match fault {
+            StoreFault::Memory => Fault::Memory,
+            fault => Fault::Store(fault),
+        }
+    }
+}
+
+impl From<SheetFault> for Fault {
+    ghost use Rattle.std.specs.Prelude.{◌≡◌};
+    ghost use Rattle.tacho_sheet.specs.Fault.{sheet_fault};
+
+    ghost from_gives = { λ fault gives. gives ≡ sheet_fault fault };
+
+    fn from(fault: SheetFault) -> Fault {
+        match fault {
+            SheetFault::Memory => Fault::Memory,
+            fault => Fault::Sheet(fault),
+        }
+    }
+}
+
+impl From<TimeFault> for Fault {
+    ghost use Rattle.std.specs.Prelude.{◌≡◌};
+    ghost use Rattle.tacho_sheet.specs.Fault.{time_fault};
+
+    ghost from_gives = { λ fault gives. gives ≡ time_fault fault };
+
+    fn from(fault: TimeFault) -> Fault {
+        Fault::Time(fault)
+    }
+}
+
+impl From<AllocError> for Fault {
+    ghost use Rattle.std.specs.Prelude.{◌≡◌};
+    ghost use Rattle.tacho_sheet.specs.declared.fault.Fault.TheVariants.{Memory};
+
+    ghost from_gives = { λ _ gives. gives ≡ Memory };
+
+    fn from(_: AllocError) -> Fault {
+        Fault::Memory
+    }
 }

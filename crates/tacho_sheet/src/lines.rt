@@ -25,6 +25,8 @@ pub fn fault_line(fault: Fault) -> FaultLine
         Fault::Number => line_of("N1 bad number\n"),
         Fault::Part => line_of("P1 bad part\n"),
         Fault::TooLarge => line_of("X1 too large\n"),
+        Fault::Device => line_of("X2 device failed\n"),
+        Fault::Memory => line_of("M1 no memory\n"),
     }
 }
 

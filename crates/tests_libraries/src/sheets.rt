@@ -799,6 +799,8 @@ fn faults_have_lines(rt: HostRuntime) {
         (Fault::Number, "N1 bad number\n"),
         (Fault::Part, "P1 bad part\n"),
         (Fault::TooLarge, "X1 too large\n"),
+        (Fault::Device, "X2 device failed\n"),
+        (Fault::Memory, "M1 no memory\n"),
     ];
     for (fault, line) in others {
         assert!(rt; has_line(fault, line), "of {line}");
