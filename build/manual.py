@@ -15,6 +15,7 @@ import time
 
 TOP = os.path.dirname(os.path.dirname(os.path.realpath(__file__)))
 TABLE = os.path.join(TOP, "crates", "tacho_desk", "src", "table.rt")
+ARGUMENTS = os.path.join(TOP, "crates", "tacho_desk", "src", "argument.rt")
 WANTS = os.path.join(TOP, "crates", "tacho_desk", "specs", "Wants.antt")
 HELP = os.path.join(TOP, "crates", "tacho_cli", "src", "help.rt")
 
@@ -26,7 +27,7 @@ COLUMNS = ["command", "arguments", "input", "method", "office", "driver"]
 ROW = re.compile(r'''    Command \{
         name: "(?P<name>[a-z]+)",
         about: "(?P<about>[^"\\\\]+)",
-        words: &\[(?P<words>.*)\],
+        arguments: &\[(?P<arguments>.*)\],
         act: (?P<act>.*),
         paths: &\[(?P<paths>[^\]]*)\],
     \},
@@ -65,10 +66,10 @@ def text_of(path: str) -> str:
 class Command:
     """A command: a row of the table, and whether it changes an archive."""
 
-    def __init__(self, row: re.Match[str], changes: bool, read: str) -> None:
+    def __init__(self, row: re.Match[str], names: dict[str, str], changes: bool, read: str) -> None:
         self.name = row["name"]
         self.about = row["about"]
-        self.arguments = re.findall(r'"([A-Z\[\]]+)"', row["words"])
+        self.arguments = [names[argument] for argument in re.findall(r"\b[A-Z]\w+(?=,|$)", row["arguments"])]
         self.input = read
         paths = re.findall(r'"([^"]+)"', row["paths"])
         self.office = [path for path in paths if not path.startswith("/me/")]
@@ -93,6 +94,15 @@ def input_of(source: str, act: str) -> str:
     return ""
 
 
+def names_of(source: str) -> dict[str, str]:
+    """The names of the arguments, by the text of argument.rt. Raises `Stop` if it doesn't name each of them."""
+    kinds = re.search(r"^pub enum Argument \{\n(.*?)^\}", source, re.MULTILINE | re.DOTALL)
+    names = dict(re.findall(r'Argument::(\w+) => "([A-Z\[\]]+)"', source))
+    if kinds is None or re.findall(r"^    (\w+),$", kinds[1], re.MULTILINE) != list(names):
+        raise Stop(f"{ARGUMENTS} doesn't name each argument")
+    return names
+
+
 def commands_of(source: str) -> list[Command]:
     """The table of commands in the text of table.rt. Raises `Stop` if a row of it has another form."""
     table = re.search(r"^static COMMANDS: \[Command; (\d+)\] = \[\n(.*?)^\];", source, re.MULTILINE | re.DOTALL)
@@ -100,7 +110,8 @@ def commands_of(source: str) -> list[Command]:
         raise Stop(f"{TABLE} has no table of commands")
     changing = [f"AtDesk({want})" for want in re.findall(r"^is_command (\w+) = true$", text_of(WANTS), re.MULTILINE)]
     helped = text_of(HELP)
-    commands = [Command(row, row["act"] in changing, input_of(helped, row["act"])) for row in ROW.finditer(table[2])]
+    names = names_of(text_of(ARGUMENTS))
+    commands = [Command(row, names, row["act"] in changing, input_of(helped, row["act"])) for row in ROW.finditer(table[2])]
     if len(commands) != int(table[1]):
         raise Stop(f"{len(commands)} of the {table[1]} rows of the table of commands in {TABLE} can be read")
     return commands
@@ -120,13 +131,11 @@ def meanings_of(source: str, commands: list[Command]) -> dict[str, str]:
     doesn't describe exactly these arguments."""
     body = re.search(r"^fn meaning_of\(.*?^\}", source, re.MULTILINE | re.DOTALL)
     named = list(dict.fromkeys(argument.strip("[]") for command in commands for argument in command.arguments))
-    found = dict(re.findall(r'"([A-Z]+)"(?: \| "\[[A-Z]+\]")? => (?:\{\s*)?"([^"\\]+)"', body[0] if body else ""))
-    # The last description is that of the one argument that isn't named before.
-    rest = [argument for argument in named if argument not in found]
-    last = re.search(r'_ => "([^"\\]+)",\s*\}\s*\}$', body[0] if body else "")
-    if last is None or len(rest) != 1 or set(found) > set(named):
+    names = names_of(text_of(ARGUMENTS))
+    arms = re.findall(r'Argument::(\w+)(?: \| Argument::\w+)* => (?:\{\s*)?"([^"\\]+)"', body[0] if body else "")
+    found = {names[argument]: meaning for argument, meaning in arms}
+    if set(found) != set(named):
         raise Stop(f"the descriptions of the arguments in {HELP} can't be read")
-    found[rest[0]] = last[1]
     return {argument: found[argument] for argument in named}
 
 

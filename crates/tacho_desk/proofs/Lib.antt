@@ -1,5 +1,5 @@
-mod StepLemmas
 pub mod MeantLemmas
+mod ReadLemmas
 mod ServeLemmas
 mod ShownLemmas
 mod AllLemmas

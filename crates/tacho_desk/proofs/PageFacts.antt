@@ -3,11 +3,10 @@ use Rattle.std.proofs.Common.{◌≡◌, List, [], ◌∷◌, Ok, Err, Some, cod
 use Rattle.tacho_card.specs.declared.file.Part.TheVariants as part
 use Rattle.tacho_state.specs.declared.caller.Caller.TheVariants as caller
 use Rattle.tacho_state.specs.declared.fault.StoreFault.TheVariants as store
-use Rattle.tacho_sheet.specs.declared.fault.Fault.TheVariants as told
-use Rattle.tacho_desk.specs.Fault.{fault_of_store}
+use Rattle.tacho_sheet.specs.Fault.{fault_of_store}
 use Rattle.tacho_desk.specs.Wants.{is_command, is_own, takes_input}
 use Rattle.tacho_desk.specs.Words.{by_part, part_of}
-use Rattle.tacho_desk.specs.declared.fault.Fault.TheVariants as fault
+use Rattle.tacho_sheet.specs.declared.fault.Fault.TheVariants as fault
 use Rattle.tacho_desk.specs.declared.task.Task.TheVariants as task
 use Rattle.tacho_desk.specs.declared.want.MonthReading.TheVariants as month
 use Rattle.tacho_desk.specs.declared.want.Reading.TheVariants as reading
@@ -45,7 +44,7 @@ first = refl
 pub second : part_of (codes "second") ≡ Some part.Second
 second = refl
 
-pub capital : by_part (part_of (codes "Both")) (λ p. task.Import (caller.Driver 17) p) ≡ Err (fault.Told told.Part)
+pub capital : by_part (part_of (codes "Both")) (λ p. task.Import (caller.Driver 17) p) ≡ Err fault.Part
 capital = refl
 
 -- ---- faults
@@ -53,5 +52,5 @@ capital = refl
 pub memory : fault_of_store store.Memory ≡ fault.Memory
 memory = refl
 
-pub store_failed : fault_of_store store.Store ≡ fault.Told (told.Store store.Store)
+pub store_failed : fault_of_store store.Store ≡ fault.Store store.Store
 store_failed = refl

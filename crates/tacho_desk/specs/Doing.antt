@@ -4,10 +4,9 @@ use Rattle.tacho_state.specs.declared.fault.StoreFault.{StoreFault}
 use Rattle.tacho_state.specs.declared.fault.StoreFault.TheVariants as store
 use Rattle.tacho_state.specs.State.{Driver, State, driver_of}
 use Rattle.tacho_state.specs.Steps.{Turn}
-use Rattle.tacho_sheet.specs.declared.fault.Fault.TheVariants as told
-use Rattle.tacho_desk.specs.declared.fault.Fault.{Fault}
-use Rattle.tacho_desk.specs.declared.fault.Fault.TheVariants as fault
-use Rattle.tacho_desk.specs.Fault.{IsFailure, fault_of_store}
+use Rattle.tacho_sheet.specs.declared.fault.Fault.{Fault}
+use Rattle.tacho_sheet.specs.declared.fault.Fault.TheVariants as fault
+use Rattle.tacho_sheet.specs.Fault.{IsFailure, fault_of_store}
 use Rattle.tacho_desk.specs.Told.{Answer, Told, Long}
 
 -- a relation between the answer and the state after it
@@ -111,11 +110,10 @@ IsUnread IsFaulty (Err f) = IsFaulty f ⊎ (f ≡ fault.Memory)
 -- what an archive may answer for a valid input: a text, its own fault, or out of memory, but no fault of the input or of a device
 abbrev pub IsOfArchive : Answer → Type 0
 IsOfArchive (Ok told) = Unit {0}
-IsOfArchive (Err fault.Device) = ⊥
 IsOfArchive (Err fault.Memory) = Unit {0}
-IsOfArchive (Err (fault.Told (told.Store (store.Card f)))) = ⊥
-IsOfArchive (Err (fault.Told (told.Store f))) = Unit {0}
-IsOfArchive (Err (fault.Told f)) = ⊥
+IsOfArchive (Err (fault.Store (store.Card f))) = ⊥
+IsOfArchive (Err (fault.Store f)) = Unit {0}
+IsOfArchive (Err f) = ⊥
 
 -- either the input is valid, and the archive answers; or the archive was not accessed, and the answer is a fault of the input, or out of
 -- memory

@@ -1,4 +1,3 @@
-pub mod Fault
 pub mod Told
 pub mod Doing
 pub mod Wants

@@ -35,10 +35,10 @@ use Rattle.tacho_sheet.specs.Reports.{breach_text, owed_text, IsGapText, IsMonth
 use Rattle.tacho_sheet.specs.Text.{entry_line, file_line, summary_line}
 use Rattle.tacho_sheet.specs.Why.{IsMonthWhy}
 use Rattle.tacho_desk.specs.Doing.{Doing, IsText, Lists, Refuses, Shows, Steps}
-use Rattle.tacho_desk.specs.Fault.{sheet_fault, fault_of_store}
+use Rattle.tacho_sheet.specs.Fault.{sheet_fault, fault_of_store}
 use Rattle.tacho_desk.specs.Version.{version_text}
 use Rattle.tacho_desk.specs.Told.{Told, Added, Line, Long, File}
-use Rattle.tacho_desk.specs.declared.fault.Fault.{Fault}
+use Rattle.tacho_sheet.specs.declared.fault.Fault.{Fault}
 use Rattle.tacho_desk.specs.declared.task.Task.{Task}
 use Rattle.tacho_desk.specs.declared.task.Task.TheVariants as task
 use Rattle.tacho_desk.specs.declared.want.MonthOfAll.{MonthOfAll}

@@ -1,6 +1,6 @@
 -- Trusted: The answer of a task that was done.
 use Rattle.std.specs.Prelude.{ℕ, List, Result, Ok, Err, string_bytes}
-use Rattle.tacho_desk.specs.declared.fault.Fault.{Fault}
+use Rattle.tacho_sheet.specs.declared.fault.Fault.{Fault}
 use Rattle.tacho_desk.specs.declared.text.Text.{Text}
 use Rattle.tacho_desk.specs.declared.text.Text.TheVariants as text
 

@@ -6,11 +6,10 @@ use Rattle.tacho_card.specs.declared.file.Part.{Part}
 use Rattle.tacho_card.specs.declared.file.Part.TheVariants as part
 use Rattle.tacho_state.specs.declared.caller.Caller.{Caller}
 use Rattle.tacho_state.specs.declared.caller.Caller.TheVariants as caller
-use Rattle.tacho_sheet.specs.declared.fault.Fault.TheVariants as told
 use Rattle.tacho_sheet.specs.Number.{HasNoNumber, IsNumberText}
-use Rattle.tacho_desk.specs.Fault.{time_fault}
-use Rattle.tacho_desk.specs.declared.fault.Fault.{Fault}
-use Rattle.tacho_desk.specs.declared.fault.Fault.TheVariants as fault
+use Rattle.tacho_sheet.specs.Fault.{time_fault}
+use Rattle.tacho_sheet.specs.declared.fault.Fault.{Fault}
+use Rattle.tacho_sheet.specs.declared.fault.Fault.TheVariants as fault
 use Rattle.tacho_desk.specs.declared.task.Task.{Task}
 use Rattle.tacho_desk.specs.declared.task.Task.TheVariants as task
 use Rattle.tacho_desk.specs.declared.want.Want.{Want}
@@ -30,7 +29,7 @@ Wanted = Result Task Fault
 -- the number is valid and `Is` holds for it, or N1
 abbrev pub ByNumber : ℕ → List ℕ → (ℕ → Wanted → Type 0) → Wanted → Type 0
 ByNumber most text Is wanted =
-    (HasNoNumber most text × (wanted ≡ Err (fault.Told told.Number))) ⊎ ((n : ℕ) × IsNumberText most text n × Is n wanted)
+    (HasNoNumber most text × (wanted ≡ Err fault.Number)) ⊎ ((n : ℕ) × IsNumberText most text n × Is n wanted)
 
 -- the task of the day or the month; or Z1, Z2 or Z3
 abbrev pub by_time : Result ℕ TimeFault → (ℕ → Wanted) → Wanted
@@ -46,7 +45,7 @@ part_of text =
 
 -- the task of the part, or P1
 abbrev pub by_part : Option Part → (Part → Task) → Wanted
-by_part None task = Err (fault.Told told.Part)
+by_part None task = Err fault.Part
 by_part (Some p) task = Ok (task p)
 
 -- the driver whom a task is about: for the office, the driver with the number in the argument; for a driver, that driver
@@ -62,7 +61,7 @@ HasNoDriver (caller.Driver m) word = ⊥
 -- the driver is named and `Is` holds for them, or N1
 abbrev pub ByDriver : Caller → List ℕ → (ℕ → Wanted → Type 0) → Wanted → Type 0
 ByDriver c word Is wanted =
-    (HasNoDriver c word × (wanted ≡ Err (fault.Told told.Number))) ⊎ ((n : ℕ) × IsDriver c word n × Is n wanted)
+    (HasNoDriver c word × (wanted ≡ Err fault.Number)) ⊎ ((n : ℕ) × IsDriver c word n × Is n wanted)
 
 -- the list of all drivers, if the office names none; otherwise what is listed of one driver
 abbrev pub IsDriversTask : Caller → List ℕ → Wanted → Type 0

@@ -6,11 +6,10 @@ ghost use Rattle.tacho_desk.specs.Tasks.{ShowsMonthOfAll};
 ghost use Rattle.tacho_desk.specs.Told.{answer_of};
 ghost use Rattle.tacho_desk.specs.declared.want.MonthOfAll.TheVariants as all;
 
-use crate::fault::Fault;
 use crate::text::Text;
 use crate::want::MonthOfAll;
 use std::alloc::Global;
-use tacho_sheet::{incident_head, overview_head, push_incidents, push_overview};
+use tacho_sheet::{Fault, incident_head, overview_head, push_incidents, push_overview};
 use tacho_state::Keeper;
 use tacho_time::{Month, month_range};
 

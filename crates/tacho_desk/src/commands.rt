@@ -1,23 +1,20 @@
 //! The commands, with their numbers and their input.
 
-ghost use Rattle.std.specs.Prelude.{◌≡◌, Ok, true};
-ghost use Rattle.tacho_state.specs.Batch.{IsBatch};
-ghost use Rattle.tacho_state.specs.Limits.{IsKey};
+ghost use Rattle.std.specs.Prelude.{◌≡◌, true};
 ghost use Rattle.tacho_desk.specs.Doing.{AsksOnly, IsOfArchive, Serves};
-ghost use Rattle.tacho_desk.specs.Tasks.{Enters, EntersRead, Imports, IsFaulty, IsSound, Rebases, Registers, RegistersRead, Rekeys, RekeysRead, Withdraws, entered_told, imported_told};
+ghost use Rattle.tacho_desk.specs.Tasks.{Enters, Imports, IsFaulty, IsSound, Rebases, Registers, Rekeys, Withdraws, imported_told};
 ghost use Rattle.tacho_desk.specs.declared.task.Task.TheVariants as task;
 ghost use Rattle.tacho_desk.specs.Told.{answer_of, told_text};
 
 use crate::base::BaseDay;
-use crate::fault::Fault;
 use crate::text::Text;
 use std::alloc::Global;
 use tacho_card::Part;
 use tacho_sheet::{
-    base_line, entered_line, imported_line, key_line, read_driver, read_entries, read_key_line,
-    registered_line, withdrawn_line,
+    Fault, base_line, entered_line, imported_line, key_line, read_driver, read_entries,
+    read_key_line, registered_line, withdrawn_line,
 };
-use tacho_state::{Caller, Driver, Entered, EntryLine, Imported, Keeper};
+use tacho_state::{Caller, Imported, Keeper};
 
 /// Adds the driver described by a text of CSV.
 pub(crate) fn register<K: Keeper>(
@@ -29,16 +26,7 @@ pub(crate) fn register<K: Keeper>(
     ensures asks { AsksOnly keeper.old keeper.new (IsSound task.Register input.now) (IsFaulty task.Register input.now) (answer_of result) }
 {
     let driver = read_driver(alloc, input)?;
-    register_driver(keeper, &driver)
-}
-
-/// Adds a driver.
-fn register_driver<K: Keeper>(keeper: &mut K, driver: &Driver) -> Result<Text, Fault>
-    ensures serves { Serves K.stands K.is_clean K.is_live K.leaves K.is_same keeper.old keeper.new true (answer_of result)
-        (λ s. RegistersRead s (Ok driver.now)) }
-    ensures archive { IsOfArchive (answer_of result) }
-{
-    keeper.register(driver)?;
+    keeper.register(&driver)?;
     Ok(Text::Added(registered_line(driver.number())))
 }
 
@@ -81,34 +69,12 @@ pub(crate) fn enter<K: Keeper>(
     ensures asks { AsksOnly keeper.old keeper.new (IsSound (task.Enter driver) input.now) (IsFaulty (task.Enter driver) input.now) (answer_of result) }
 {
     let lines = read_entries(alloc, input)?;
-    enter_lines(alloc, keeper, driver, &lines)
-}
-
-/// Enters hours.
-fn enter_lines<K: Keeper>(
-    alloc: Global,
-    keeper: &mut K,
-    driver: u32,
-    lines: &[EntryLine],
-) -> Result<Text, Fault>
-    requires { IsBatch lines.now }
-    ensures serves { Serves K.stands K.is_clean K.is_live K.leaves K.is_same keeper.old keeper.new true (answer_of result)
-        (λ s. EntersRead driver s (Ok lines.now)) }
-    ensures archive { IsOfArchive (answer_of result) }
-{
-    let entered = keeper.enter(alloc, driver, lines)?;
-    Ok(entered_text(entered))
-}
-
-/// The line of a batch, by whether it had lines.
-fn entered_text(entered: Entered) -> Text
-    ensures { told_text result ≡ entered_told entered.first entered.count }
-{
+    let entered = keeper.enter(alloc, driver, &lines)?;
     let line = entered_line(entered);
     if entered.count == 0 {
-        Text::Line(line)
+        Ok(Text::Line(line))
     } else {
-        Text::Added(line)
+        Ok(Text::Added(line))
     }
 }
 
@@ -142,16 +108,6 @@ pub(crate) fn rekey<K: Keeper>(keeper: &mut K, driver: u32, input: &[u8]) -> Res
     ensures asks { AsksOnly keeper.old keeper.new (IsSound (task.Key driver) input.now) (IsFaulty (task.Key driver) input.now) (answer_of result) }
 {
     let key = read_key_line(input)?;
-    set_key(keeper, driver, key)
-}
-
-/// Sets a driver's key.
-fn set_key<K: Keeper>(keeper: &mut K, driver: u32, key: &str) -> Result<Text, Fault>
-    requires { IsKey key.now }
-    ensures serves { Serves K.stands K.is_clean K.is_live K.leaves K.is_same keeper.old keeper.new true (answer_of result)
-        (λ s. RekeysRead driver s (Ok key.now)) }
-    ensures archive { IsOfArchive (answer_of result) }
-{
     keeper.rekey(driver, key)?;
     Ok(Text::Line(key_line(driver)))
 }

@@ -3,9 +3,9 @@
 #![tactic(auto)]
 
 mod all;
+mod argument;
 mod base;
 mod commands;
-mod fault;
 pub mod laws;
 mod readings;
 mod release;
@@ -15,10 +15,11 @@ mod text;
 mod want;
 mod words;
 
+pub use argument::Argument;
 pub use base::BaseDay;
-pub use fault::Fault;
 pub use release::version_text;
 pub use table::{Act, Command, command_table};
+pub use tacho_sheet::Fault;
 pub use task::{Task, carry_out};
 pub use text::Text;
 pub use want::{MonthOfAll, MonthReading, Reading, Want};

@@ -4,12 +4,12 @@ ghost use Rattle.tacho_desk.specs.Told.{answer_of};
 ghost use Rattle.tacho_desk.specs.Wants.{is_command};
 
 use crate::base::BaseDay;
-use crate::fault::Fault;
 use crate::text::Text;
 use crate::want::{MonthOfAll, MonthReading, Reading};
 use crate::{all, commands, readings};
 use std::alloc::Global;
 use tacho_card::Part;
+use tacho_sheet::Fault;
 use tacho_state::{Caller, Keeper};
 use tacho_time::Month;
 

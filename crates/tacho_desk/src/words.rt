@@ -1,16 +1,13 @@
-ghost use Rattle.std.specs.Prelude.{◌≡◌, IfOk, MatchResult};
+ghost use Rattle.std.specs.Prelude.{◌≡◌, IfOk, MatchOption};
 ghost use Rattle.tacho_desk.specs.Tasks.{want_of};
 ghost use Rattle.tacho_desk.specs.declared.task.Task.TheVariants as task;
-ghost use Rattle.tacho_sheet.specs.declared.fault.Fault.TheVariants as told;
-ghost use Rattle.tacho_sheet.specs.Number.{HasNoNumber, IsNumberText};
-ghost use Rattle.tacho_desk.specs.Words.{HasNoDriver, IsDriver, IsDriversTask, IsTask, by_part, most_number, part_of as part_named};
+ghost use Rattle.tacho_desk.specs.Words.{HasNoDriver, IsDriver, IsDriversTask, IsTask, by_part, part_of as part_named};
 
 use crate::base::BaseDay;
-use crate::fault::Fault;
 use crate::task::Task;
 use crate::want::Want;
 use tacho_card::Part;
-use tacho_sheet::{Fault as ToldFault, read_number};
+use tacho_sheet::{Fault, read_number};
 use tacho_state::Caller;
 use tacho_time::Month;
 
@@ -22,25 +19,12 @@ const LAST_NUMBER: u32 = 1_000_000;
 
 /// The driver whom a task is about. For the office, the argument is the driver's number, 1 to 999,999 without leading zeros (N1). For a
 /// driver, it is that driver.
-fn driver_of(caller: Caller, word: &[u8]) -> Result<u32, Fault>
-    ensures { MatchResult result (IsDriver caller word.now) (λ fault. HasNoDriver caller word.now × (fault ≡ Fault.Told told.Number)) }
+fn driver_of(caller: Caller, word: &[u8]) -> Option<u32>
+    ensures { MatchOption result (HasNoDriver caller word.now) (IsDriver caller word.now) }
 {
     match caller {
-        Caller::Office => match read_number(word, LAST_DRIVER) {
-            Some(number) => Ok(number),
-            None => Err(Fault::Told(ToldFault::Number)),
-        },
-        Caller::Driver(number) => Ok(number),
-    }
-}
-
-/// Reads the number of an entry or a download, 1 to 1,000,000 without leading zeros: N1.
-fn number_of(text: &[u8]) -> Result<u32, Fault>
-    ensures { MatchResult result (IsNumberText most_number text.now) (λ fault. HasNoNumber most_number text.now × (fault ≡ Fault.Told told.Number)) }
-{
-    match read_number(text, LAST_NUMBER) {
-        Some(number) => Ok(number),
-        None => Err(Fault::Told(ToldFault::Number)),
+        Caller::Office => read_number(word, LAST_DRIVER),
+        Caller::Driver(number) => Some(number),
     }
 }
 
@@ -65,7 +49,7 @@ fn import_of(caller: Caller, word: &[u8]) -> Result<Task, Fault>
 {
     match part_of(word) {
         Some(part) => Ok(Task::Import { caller, part }),
-        None => Err(Fault::Told(ToldFault::Part)),
+        None => Err(Fault::Part),
     }
 }
 
@@ -78,8 +62,8 @@ fn drivers_of(caller: Caller, word: &[u8]) -> Result<Task, Fault>
         return Ok(Task::Drivers);
     }
     match driver_of(caller, word) {
-        Ok(driver) => Ok(Task::Driver { driver }),
-        Err(fault) => Err(fault),
+        Some(driver) => Ok(Task::Driver { driver }),
+        None => Err(Fault::Number),
     }
 }
 
@@ -93,30 +77,30 @@ pub fn task_of(want: Want, caller: Caller, driver: &[u8], word: &[u8]) -> Result
         Want::Register => Ok(Task::Register),
         Want::Import => import_of(caller, word),
         Want::Enter => match driver_of(caller, driver) {
-            Ok(driver) => Ok(Task::Enter { driver }),
-            Err(fault) => Err(fault),
+            Some(driver) => Ok(Task::Enter { driver }),
+            None => Err(Fault::Number),
         },
-        Want::Withdraw => match (driver_of(caller, driver), number_of(word)) {
-            (Ok(driver), Ok(number)) => Ok(Task::Withdraw { driver, number }),
-            (Err(fault), _) | (_, Err(fault)) => Err(fault),
+        Want::Withdraw => match (driver_of(caller, driver), read_number(word, LAST_NUMBER)) {
+            (Some(driver), Some(number)) => Ok(Task::Withdraw { driver, number }),
+            _ => Err(Fault::Number),
         },
         Want::Base => match driver_of(caller, driver) {
-            Ok(driver) => {
+            Some(driver) => {
                 let day = BaseDay::read(word)?;
                 Ok(Task::Base { driver, day })
             }
-            Err(fault) => Err(fault),
+            None => Err(Fault::Number),
         },
         Want::Key => match driver_of(caller, driver) {
-            Ok(driver) => Ok(Task::Key { driver }),
-            Err(fault) => Err(fault),
+            Some(driver) => Ok(Task::Key { driver }),
+            None => Err(Fault::Number),
         },
         Want::Reading(reading) => match driver_of(caller, driver) {
-            Ok(driver) => Ok(Task::Reading { driver, reading }),
-            Err(fault) => Err(fault),
+            Some(driver) => Ok(Task::Reading { driver, reading }),
+            None => Err(Fault::Number),
         },
         Want::MonthReading(reading) => match driver_of(caller, driver) {
-            Ok(driver) => {
+            Some(driver) => {
                 let month = Month::read(word)?;
                 Ok(Task::MonthReading {
                     driver,
@@ -124,11 +108,11 @@ pub fn task_of(want: Want, caller: Caller, driver: &[u8], word: &[u8]) -> Result
                     reading,
                 })
             }
-            Err(fault) => Err(fault),
+            None => Err(Fault::Number),
         },
-        Want::File => match (driver_of(caller, driver), number_of(word)) {
-            (Ok(driver), Ok(number)) => Ok(Task::File { driver, number }),
-            (Err(fault), _) | (_, Err(fault)) => Err(fault),
+        Want::File => match (driver_of(caller, driver), read_number(word, LAST_NUMBER)) {
+            (Some(driver), Some(number)) => Ok(Task::File { driver, number }),
+            _ => Err(Fault::Number),
         },
         Want::Drivers => drivers_of(caller, driver),
         Want::Version => Ok(Task::Version),

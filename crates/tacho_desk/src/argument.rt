@@ -1,0 +1,47 @@
+/// An argument of a command.
+#[derive(Clone, Copy)]
+pub enum Argument {
+    /// The path of the archive's file.
+    Archive,
+    /// The part of a card file.
+    Part,
+    /// The number of a driver.
+    Driver,
+    /// The number of a driver, or nothing.
+    AnyDriver,
+    /// The number of an entry or of a card file.
+    Number,
+    /// A day.
+    Date,
+    /// A month.
+    Month,
+    /// The office's key.
+    Key,
+    /// The port of a server.
+    Port,
+    /// How many connections a server answers.
+    Count,
+}
+
+impl Argument {
+    ghost use Rattle.std.specs.Prelude.{◌≡◌};
+    ghost use Rattle.tacho_desk.specs.Commands.{name_of};
+
+    /// The name in the usage. An argument that may be left out is in brackets.
+    pub fn name(self) -> &'static str
+        ensures { result.now ≡ name_of self }
+    {
+        match self {
+            Argument::Archive => "ARCHIVE",
+            Argument::Part => "PART",
+            Argument::Driver => "DRIVER",
+            Argument::AnyDriver => "[DRIVER]",
+            Argument::Number => "NUMBER",
+            Argument::Date => "DATE",
+            Argument::Month => "MONTH",
+            Argument::Key => "KEY",
+            Argument::Port => "PORT",
+            Argument::Count => "COUNT",
+        }
+    }
+}
