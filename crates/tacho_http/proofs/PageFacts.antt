@@ -1,16 +1,15 @@
 -- What docs/FORMATS.md says of replies is what the definitions say: with another value here, this file isn't accepted. RouteVectors has
 -- what the paths of that page name.
-use Rattle.std.proofs.Common.{◌≡◌, [], ◌∷◌, ◌++◌, Ok, Err, codes, map, true, false, refl}
+use Rattle.std.proofs.Common.{◌≡◌, [], ◌∷◌, ◌++◌, Ok, Err, codes, map, true, false, refl, replicate}
 use Rattle.std.specs.Fmt.{digits}
 use Rattle.tacho_card.specs.declared.fault.CardFault.TheVariants as card
 use Rattle.tacho_state.specs.declared.driver.Column.TheVariants as column
 use Rattle.tacho_state.specs.declared.fault.StoreFault.TheVariants as store
 use Rattle.tacho_time.specs.declared.fault.TimeFault.TheVariants as time
-use Rattle.tacho_sheet.specs.declared.fault.Fault.TheVariants as told
 use Rattle.tacho_sheet.specs.declared.fault.LeftOut.TheVariants as left_out
 use Rattle.tacho_sheet.specs.declared.fault.SheetFault.TheVariants as sheet
 use Rattle.tacho_desk.specs.Told.{Added, File, Line, Long}
-use Rattle.tacho_desk.specs.declared.fault.Fault.TheVariants as fault
+use Rattle.tacho_sheet.specs.declared.fault.Fault.TheVariants as fault
 use Rattle.tacho_desk.specs.declared.want.MonthOfAll.TheVariants as all
 use Rattle.tacho_desk.specs.declared.want.MonthReading.TheVariants as month
 use Rattle.tacho_desk.specs.declared.want.Reading.TheVariants as reading
@@ -24,85 +23,48 @@ use Rattle.tacho_http.specs.Reply.{bytes_of_reply, fault_status, media_of, reply
 -- ---- the statuses of refusals
 
 -- of the archive's refusals, S1 to S14
-pub archive_refuses : map store_status (store.DriverTaken ∷
-    store.KeyTaken ∷
-    store.HolderTaken ∷
-    store.UnknownDriver ∷
-    store.NotYourCard ∷
-    (store.Contradiction 0) ∷
-    store.UnknownEntry ∷
-    store.AlreadyWithdrawn ∷
-    store.NotMonday ∷
-    store.UnknownDownload ∷
-    (store.Card card.NoActivity) ∷
-    (store.Card card.Memory) ∷
-    store.Store ∷
-    store.OldSchema ∷
-    store.Full ∷
-    store.Memory ∷ [])
-    ≡ status.Conflict
-    ∷ status.Conflict
-    ∷ status.Conflict
-    ∷ status.NotFound
-    ∷ status.Forbidden
-    ∷ status.Conflict
-    ∷ status.NotFound
-    ∷ status.Conflict
-    ∷ status.UnprocessableEntity
-    ∷ status.NotFound
-    ∷ status.UnprocessableEntity
-    ∷ status.Unavailable
-    ∷ status.Unavailable
-    ∷ status.Unavailable
-    ∷ status.Conflict
-    ∷ status.Unavailable ∷ []
+pub archive_conflicts : map store_status (store.DriverTaken ∷ store.KeyTaken ∷ store.HolderTaken ∷ store.Contradiction 0
+    ∷ store.AlreadyWithdrawn ∷ store.Full ∷ []) ≡ replicate 6 status.Conflict
+archive_conflicts = refl
+
+pub archive_lacks : map store_status (store.UnknownDriver ∷ store.UnknownEntry ∷ store.UnknownDownload ∷ []) ≡ replicate 3 status.NotFound
+archive_lacks = refl
+
+pub archive_forbids : store_status store.NotYourCard ≡ status.Forbidden
+archive_forbids = refl
+
+pub archive_refuses : map store_status (store.NotMonday ∷ store.Card card.NoActivity ∷ []) ≡ replicate 2 status.UnprocessableEntity
 archive_refuses = refl
 
+pub archive_fails : map store_status (store.Store ∷ store.OldSchema ∷ store.Memory ∷ [])
+    ≡ replicate 3 status.Unavailable
+archive_fails = refl
+
 -- of bad arguments in a path
-pub words_are_wrong : map fault_status (told.Number ∷ told.Part ∷ told.Time time.Shape ∷ told.Time time.NoSuchDate ∷ told.Time time.OutOfRange ∷ [])
-    ≡ status.BadRequest ∷ status.BadRequest ∷ status.BadRequest ∷ status.BadRequest ∷ status.BadRequest ∷ []
+pub words_are_wrong : map fault_status (fault.Number ∷ fault.Part ∷ fault.Time time.Shape ∷ fault.Time time.NoSuchDate ∷ fault.Time time.OutOfRange ∷ [])
+    ≡ replicate 5 status.BadRequest
 words_are_wrong = refl
 
 -- of bad rows in a body
-pub rows_are_wrong : map (λ f. fault_status (told.Sheet f)) (sheet.Head ∷ (sheet.Fields 2) ∷ (sheet.Time 2) ∷ (sheet.Order 2)
+pub rows_are_wrong : map (λ f. fault_status (fault.Sheet f)) (sheet.Head ∷ (sheet.Fields 2) ∷ (sheet.Time 2) ∷ (sheet.Order 2)
     ∷ (sheet.LeftOut 2 left_out.Crew) ∷ (sheet.Activity 2) ∷ (sheet.TooLong 2) ∷ sheet.Csv ∷ (sheet.Column column.Holder)
     ∷ (sheet.Text 2 column.Author) ∷ (sheet.Text 2 column.Note) ∷ [])
-    ≡ status.UnprocessableEntity ∷ status.UnprocessableEntity ∷ status.UnprocessableEntity ∷ status.UnprocessableEntity
-    ∷ status.UnprocessableEntity ∷ status.UnprocessableEntity ∷ status.UnprocessableEntity ∷ status.UnprocessableEntity
-    ∷ status.UnprocessableEntity ∷ status.UnprocessableEntity ∷ status.UnprocessableEntity ∷ []
+    ≡ replicate 11 status.UnprocessableEntity
 rows_are_wrong = refl
 
 -- ---- fixed bodies
 
-pub bad_request : fixed_text status.BadRequest ≡ codes "bad request\n"
-bad_request = refl
-
-pub forbidden : fixed_text status.Forbidden ≡ codes "forbidden\n"
-forbidden = refl
-
-pub not_found : fixed_text status.NotFound ≡ codes "not found\n"
-not_found = refl
-
-pub method_not_allowed : fixed_text status.MethodNotAllowed ≡ codes "method not allowed\n"
-method_not_allowed = refl
-
-pub length_required : fixed_text status.LengthRequired ≡ codes "length required\n"
-length_required = refl
-
-pub payload_too_large : fixed_text status.PayloadTooLarge ≡ codes "too large\n"
-payload_too_large = refl
-
-pub fields_too_large : fixed_text status.FieldsTooLarge ≡ codes "head too large\n"
-fields_too_large = refl
-
-pub unavailable : fixed_text status.Unavailable ≡ codes "unavailable\n"
-unavailable = refl
+pub fixed_texts : map fixed_text (status.BadRequest ∷ status.Forbidden ∷ status.NotFound ∷ status.MethodNotAllowed ∷ status.LengthRequired
+    ∷ status.PayloadTooLarge ∷ status.FieldsTooLarge ∷ status.Unavailable ∷ [])
+    ≡ codes "bad request\n" ∷ codes "forbidden\n" ∷ codes "not found\n" ∷ codes "method not allowed\n" ∷ codes "length required\n"
+    ∷ codes "too large\n" ∷ codes "head too large\n" ∷ codes "unavailable\n" ∷ []
+fixed_texts = refl
 
 -- the reply to out of memory, and to a store failure, has only the fixed text
 pub no_memory : reply_to want.Drivers (Err fault.Memory) ≡ reply_of_status status.Unavailable
 no_memory = refl
 
-pub store_failed : reply_to want.Drivers (Err (fault.Told (told.Store store.Store))) ≡ reply_of_status status.Unavailable
+pub store_failed : reply_to want.Drivers (Err (fault.Store store.Store)) ≡ reply_of_status status.Unavailable
 store_failed = refl
 
 -- ---- whole replies

@@ -1,5 +1,5 @@
 -- The parts of a path, by its first slash and by its last.
-use Rattle.std.proofs.Common.{◌≡◌, ◌==◌, ◌≤◌, ◌+◌, ◌∷◌, ℕ, Bool, true, false, List, [], length, take, drop, refl, ap, arith, suc, zero, if◌then◌else◌}
+use Rattle.std.proofs.Common.{◌≡◌, ◌==◌, ◌≤◌, ◌+◌, ◌∷◌, ℕ, true, List, [], length, take, drop, refl, arith, suc, zero}
 use Rattle.memchr.specs.Find.{NoneAfter, NoneBefore, Nowhere, Passes, is_byte}
 use Rattle.tacho_http.specs.Routes.{before_slash, last_from}
 
@@ -13,54 +13,45 @@ none_in_rest b path i none j far k low high = none (suc k) (omega arith) (omega 
 -- without a slash the whole path comes before the first
 pub no_slash : (path : List ℕ) → Nowhere (IsSlash path) 0 (length path) → path ≡ before_slash path
 no_slash [] none = refl
-no_slash (b ∷ path) none = by (b == 47) refl (no_slash path (none_in_rest b path 0 none 0 (omega arith)))
-  where
-    by : (is : Bool) → (b == 47) ≡ is → path ≡ before_slash path → b ∷ path ≡ (if is then [] else b ∷ before_slash path)
-    by true e same = absurd (none 0 (omega arith) (omega arith) e)
-    by false e same = ap (λ rest. b ∷ rest) same
+no_slash (b ∷ path) none =
+    let here : (b == 47) ≡ true → ⊥ = none 0 (omega arith) (omega arith) in
+    let rest = no_slash path (none_in_rest b path 0 none 0 (omega arith)) in
+    grind arith
 
 -- what comes before the first slash
 pub before_first : (path : List ℕ) (k : ℕ) → NoneBefore (IsSlash path) 0 (length path) k → IsSlash path k → take k path ≡ before_slash path
 before_first [] k first here = absurd (let l = first.high in omega arith)
 before_first (b ∷ path) zero first here = rw here refl
-before_first (b ∷ path) (suc k) first here = by (b == 47) refl (before_first path k rest here)
-  where
-    rest : NoneBefore (IsSlash path) 0 (length path) k
-    rest = record {
+before_first (b ∷ path) (suc k) first here =
+    let high = first.high in
+    let none : (b == 47) ≡ true → ⊥ = first.before 0 (omega arith) (omega arith) in
+    let rest = before_first path k (record {
       low = omega arith;
-      high = (let l = first.high in omega arith);
+      high = omega arith;
       before = λ i low high. first.before (suc i) (omega arith) (omega arith);
-    }
-
-    by : (is : Bool) → (b == 47) ≡ is → take k path ≡ before_slash path → b ∷ take k path ≡ (if is then [] else b ∷ before_slash path)
-    by true e same = absurd (first.before 0 (omega arith) (omega arith) e)
-    by false e same = ap (λ bytes. b ∷ bytes) same
+    }) here in
+    grind arith
 
 -- without a slash the part goes on to the end
 pub last_whole : (part path : List ℕ) → Nowhere (IsSlash path) 0 (length path) → part ≡ last_from part path
 last_whole part [] none = refl
-last_whole part (b ∷ path) none = by (b == 47) refl (last_whole part path (none_in_rest b path 0 none 0 (omega arith)))
-  where
-    by : (is : Bool) → (b == 47) ≡ is → part ≡ last_from part path → part ≡ (if is then last_from path path else last_from part path)
-    by true e same = absurd (none 0 (omega arith) (omega arith) e)
-    by false e same = same
+last_whole part (b ∷ path) none =
+    let here : (b == 47) ≡ true → ⊥ = none 0 (omega arith) (omega arith) in
+    let rest = last_whole part path (none_in_rest b path 0 none 0 (omega arith)) in
+    grind arith
 
 -- what comes after the last slash
 pub after_last : (part path : List ℕ) (k : ℕ) → NoneAfter (IsSlash path) 0 (length path) k → IsSlash path k → drop (k + 1) path ≡ last_from part path
 after_last part [] k last here = absurd (let l = last.high in omega arith)
 after_last part (b ∷ path) zero last here = rw here (last_whole path path (none_in_rest b path 1 last.after 0 (omega arith)))
 after_last part (b ∷ path) (suc k) last here =
-    let on : suc k + 1 ≡ suc (k + 1) = omega arith in
-    rw on (by (b == 47) (after_last path path k rest here) (after_last part path k rest here))
-  where
-    rest : NoneAfter (IsSlash path) 0 (length path) k
-    rest = record {
+    let high = last.high in
+    let rest : NoneAfter (IsSlash path) 0 (length path) k = record {
       low = omega arith;
-      high = (let l = last.high in omega arith);
+      high = omega arith;
       after = none_in_rest b path (suc k + 1) last.after (k + 1) (omega arith);
-    }
-
-    by : (is : Bool) → drop (k + 1) path ≡ last_from path path → drop (k + 1) path ≡ last_from part path
-        → drop (k + 1) path ≡ (if is then last_from path path else last_from part path)
-    by true anew on = anew
-    by false anew on = on
+    } in
+    let on : suc k + 1 ≡ suc (k + 1) = omega arith in
+    let anew = after_last path path k rest here in
+    let same = after_last part path k rest here in
+    rw on (grind arith)

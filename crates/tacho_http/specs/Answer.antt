@@ -156,15 +156,13 @@ IsReplied old new reply (Err io.Read) = new ≡ old
 
 -- the request was answered; or the reader failed, and the archive has the state before
 abbrev pub Settles : (State → Type 0) → (List State → Type 0) → Bool → List ℕ → List ℕ → State → Reply → Result Served IoFault → Type 0
-Settles stands leaves command office input s reply (Ok served) = AnswersInput stands leaves command office input s reply
-Settles stands leaves command office input s reply (Err io.Write) = AnswersInput stands leaves command office input s reply
 Settles stands leaves command office input s reply (Err io.Read) = stands s
+Settles stands leaves command office input s reply result = AnswersInput stands leaves command office input s reply
 
 -- a crash may leave what it could leave before the call, or also the state after the reply; if the reader failed, only the former
 abbrev pub CrashMayLeaveServed : (List State → Type 0) → List State → List ℕ → List ℕ → State → Reply → Result Served IoFault → Type 0
-CrashMayLeaveServed leaves past office input s reply (Ok served) = CrashMayLeaveReply leaves past (Reacts office input s) reply
-CrashMayLeaveServed leaves past office input s reply (Err io.Write) = CrashMayLeaveReply leaves past (Reacts office input s) reply
 CrashMayLeaveServed leaves past office input s reply (Err io.Read) = leaves past
+CrashMayLeaveServed leaves past office input s reply result = CrashMayLeaveReply leaves past (Reacts office input s) reply
 
 -- the reader failed, or nothing was posted, or nothing was done
 abbrev pub IsUndoneBy : Bool → Reply → Result Served IoFault → Type 0

@@ -1,5 +1,6 @@
 -- Private to tacho_http: What the requests for a command offer, by the table of commands.
-use Rattle.std.specs.Prelude.{ℕ, List, [], Bool, true, false, Option, Some, None, bytes_eq, codes, if◌then◌else◌, flat_map, map, take}
+use Rattle.std.specs.Prelude.{ℕ, List, [], Bool, Option, Some, None, bytes_eq, codes, if◌then◌else◌, flat_map, map, take}
+use Rattle.tacho_time.specs.Merge.{same_bool}
 use Rattle.tacho_desk.specs.Commands.{Row}
 use Rattle.tacho_desk.specs.Wants.{is_command}
 use Rattle.tacho_desk.specs.declared.table.Act.{Act}
@@ -17,11 +18,6 @@ asker_of_path path = if bytes_eq (codes "/me/") (take 4 path) then Driver else O
 abbrev pub offer_at : Want → List ℕ → Offer
 offer_at w path = (path, record { asker = asker_of_path path; want = w })
 
--- either is true and the other isn't
-abbrev pub differ : Bool → Bool → Bool
-differ true b = if b then false else true
-differ false b = b
-
 -- what is asked for by a request for what a command does
 abbrev pub want_of : Act → Option Want
 want_of (AtDesk w) = Some w
@@ -31,7 +27,7 @@ want_of other = None
 -- those of a command, if they are posted or if they aren't
 abbrev pub offers_by : Bool → Option Want → List (List ℕ) → List Offer
 offers_by posted None paths = []
-offers_by posted (Some w) paths = if differ (is_command w) posted then [] else map (offer_at w) paths
+offers_by posted (Some w) paths = if same_bool (is_command w) posted then map (offer_at w) paths else []
 
 abbrev pub offers_of : Bool → Row → List Offer
 offers_of posted row = offers_by posted (want_of row.act) row.paths

@@ -1,15 +1,11 @@
 -- Trusted in part: The replies: what a request is answered, with the status and the type of the body.
 use Rattle.std.specs.Prelude.{ℕ, List, [], Ok, Err, codes}
-use Rattle.tacho_card.specs.declared.fault.CardFault.TheVariants as card
 use Rattle.tacho_state.specs.declared.fault.StoreFault.{StoreFault}
 use Rattle.tacho_state.specs.declared.fault.StoreFault.TheVariants as store
 use Rattle.tacho_sheet.specs.Lines.{fault_line}
-use Rattle.tacho_sheet.specs.declared.fault.Fault.{Fault as ToldFault}
-use Rattle.tacho_sheet.specs.declared.fault.Fault.TheVariants as told
-use Rattle.tacho_sheet.specs.declared.fault.SheetFault.TheVariants as sheet
 use Rattle.tacho_desk.specs.Told.{Answer, Told, Added, bytes_of, told_text}
-use Rattle.tacho_desk.specs.declared.fault.Fault.{Fault}
-use Rattle.tacho_desk.specs.declared.fault.Fault.TheVariants as fault
+use Rattle.tacho_sheet.specs.declared.fault.Fault.{Fault}
+use Rattle.tacho_sheet.specs.declared.fault.Fault.TheVariants as fault
 use Rattle.tacho_desk.specs.declared.want.MonthReading.TheVariants as month
 use Rattle.tacho_desk.specs.declared.want.Reading.TheVariants as reading
 use Rattle.tacho_desk.specs.declared.want.Want.{Want}
@@ -45,10 +41,7 @@ fixed_text status.LengthRequired = codes "length required\n"
 fixed_text status.PayloadTooLarge = codes "too large\n"
 fixed_text status.FieldsTooLarge = codes "head too large\n"
 fixed_text status.Unavailable = codes "unavailable\n"
-fixed_text status.Okay = []
-fixed_text status.Created = []
-fixed_text status.Conflict = []
-fixed_text status.UnprocessableEntity = []
+fixed_text other = []
 
 abbrev pub reply_of_status : Status → Reply
 reply_of_status s = text_reply s (fixed_text s)
@@ -65,33 +58,30 @@ store_status store.UnknownEntry = status.NotFound
 store_status store.AlreadyWithdrawn = status.Conflict
 store_status store.NotMonday = status.UnprocessableEntity
 store_status store.UnknownDownload = status.NotFound
-store_status (store.Card card.Memory) = status.Unavailable
 store_status (store.Card f) = status.UnprocessableEntity
 store_status store.Store = status.Unavailable
 store_status store.OldSchema = status.Unavailable
 store_status store.Full = status.Conflict
 store_status store.Memory = status.Unavailable
 
-abbrev pub fault_status : ToldFault → Status
-fault_status (told.Time f) = status.BadRequest
-fault_status told.Number = status.BadRequest
-fault_status told.Part = status.BadRequest
-fault_status told.TooLarge = status.PayloadTooLarge
-fault_status (told.Card card.Memory) = status.Unavailable
-fault_status (told.Card f) = status.UnprocessableEntity
-fault_status (told.Store f) = store_status f
-fault_status (told.Sheet sheet.Memory) = status.Unavailable
-fault_status (told.Sheet f) = status.UnprocessableEntity
+abbrev pub fault_status : Fault → Status
+fault_status (fault.Time f) = status.BadRequest
+fault_status fault.Number = status.BadRequest
+fault_status fault.Part = status.BadRequest
+fault_status fault.TooLarge = status.PayloadTooLarge
+fault_status (fault.Card f) = status.UnprocessableEntity
+fault_status (fault.Store f) = store_status f
+fault_status (fault.Sheet f) = status.UnprocessableEntity
+fault_status fault.Device = status.Unavailable
+fault_status fault.Memory = status.Unavailable
 
--- the line of the fault, unless the status is 503 (out of memory, a failed store, an old schema): then the fixed text
-abbrev pub told_reply : Status → ToldFault → Reply
-told_reply status.Unavailable f = reply_of_status status.Unavailable
-told_reply s f = text_reply s (fault_line f)
+-- the line of the fault, unless the status is 503 (out of memory, a failed store or device, an old schema): then the fixed text
+abbrev pub line_reply : Status → Fault → Reply
+line_reply status.Unavailable f = reply_of_status status.Unavailable
+line_reply s f = text_reply s (fault_line f)
 
 abbrev pub fault_reply : Fault → Reply
-fault_reply (fault.Told f) = told_reply (fault_status f) f
-fault_reply fault.Device = reply_of_status status.Unavailable
-fault_reply fault.Memory = reply_of_status status.Unavailable
+fault_reply f = line_reply (fault_status f) f
 
 -- the type of what a task answers
 abbrev pub media_of : Want → MediaType

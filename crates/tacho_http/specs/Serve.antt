@@ -8,7 +8,7 @@ use Rattle.tacho_state.specs.declared.caller.Caller.TheVariants as caller
 use Rattle.tacho_state.specs.declared.fault.StoreFault.{StoreFault}
 use Rattle.tacho_state.specs.declared.fault.StoreFault.TheVariants as store
 use Rattle.tacho_sheet.specs.Key.{IsKeyLine}
-use Rattle.tacho_desk.specs.Fault.{fault_of_store}
+use Rattle.tacho_sheet.specs.Fault.{fault_of_store}
 use Rattle.tacho_desk.specs.declared.task.Task.{Task}
 use Rattle.tacho_desk.specs.declared.task.Task.TheVariants as task
 use Rattle.tacho_desk.specs.Tasks.{Does, want_of}

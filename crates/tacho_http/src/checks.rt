@@ -1,24 +1,23 @@
 //! The checks of a request, in their order.
 
-ghost use Rattle.std.specs.Prelude.{◌≡◌, ◌↔◌, ◌++◌, ℕ, All, List, Some, false, length, map, true, IsErr};
+ghost use Rattle.std.specs.Prelude.{◌≡◌, ◌↔◌, ◌++◌, ℕ, All, List, Some, false, length, true, IsErr};
 ghost use Rattle.httparse.specs.Grammar.{RequestHead};
-ghost use Rattle.httparse.specs.Spans.{IsHeaderWithin, header_bytes};
+ghost use Rattle.httparse.specs.Spans.{IsHeaderWithin};
 ghost use Rattle.tacho_message.specs.Body.{Lacks};
 ghost use Rattle.tacho_message.specs.Length.{method_of};
-ghost use Rattle.tacho_message.specs.Request.{IsRequest, fields_of, key_of};
+ghost use Rattle.tacho_message.specs.Request.{IsRequest, key_of};
 ghost use Rattle.tacho_state.specs.State.{State};
 ghost use Rattle.tacho_desk.specs.Wants.{is_command};
 ghost use Rattle.tacho_http.specs.Answer.{Asks, LacksMore, MayAsk, Responds};
 ghost use Rattle.tacho_http.specs.Asked.{is_post};
 ghost use Rattle.tacho_http.specs.Serve.{ByCaller, ByKey, IsReserved, Runs};
 
-use crate::asked::{asked_of, asker_of};
 use crate::places::{Found, Routes};
 use crate::response::{Response, fixed, refusal, reply};
 use std::alloc::Global;
 use tacho_desk::{Fault, Task, carry_out, task_of};
 use tacho_message::{BodyFault, Method, Request, Status, body_length_of, read_body};
-use tacho_sheet::{Fault as ToldFault, read_key_line};
+use tacho_sheet::read_key_line;
 use tacho_state::{Caller, Keeper, StoreFault};
 use tacho_time::{Failed, Source};
 
@@ -45,30 +44,16 @@ pub(crate) fn by_key<K: Keeper, R: Source>(
         → LacksMore (Asks s office_key.now) h request.now.after_head.now (R.unread reader.old) (R.unread reader.new) }
     ensures failed { IsErr result ↔ (R.has_failed reader.new ≡ true) }
 {
-    if key == office_key {
-        return by_caller(
-            alloc,
-            routes,
-            keeper,
-            office_key,
-            Caller::Office,
-            reader,
-            request,
-        );
-    }
-    match keeper.who(key) {
-        Ok(Some(number)) => by_caller(
-            alloc,
-            routes,
-            keeper,
-            office_key,
-            Caller::Driver(number),
-            reader,
-            request,
-        ),
-        Ok(None) => Ok(fixed(Status::Forbidden)),
-        Err(_) => Ok(fixed(Status::Unavailable)),
-    }
+    let caller = if key == office_key {
+        Caller::Office
+    } else {
+        match keeper.who(key) {
+            Ok(Some(number)) => Caller::Driver(number),
+            Ok(None) => return Ok(fixed(Status::Forbidden)),
+            Err(_) => return Ok(fixed(Status::Unavailable)),
+        }
+    };
+    by_caller(alloc, routes, keeper, office_key, caller, reader, request)
 }
 
 /// Answers a caller's request. Checks its path, its method, for whom the path is, and its fields.
@@ -94,7 +79,7 @@ fn by_caller<K: Keeper, R: Source>(
         return Ok(fixed(Status::Unavailable));
     };
     let method = Method::read(request.method);
-    let asked = match asked_of(asker_of(caller), method, routes.find(request.path)) {
+    let asked = match routes.find(caller, method, request.path) {
         Ok(asked) => asked,
         Err(status) => return Ok(fixed(status)),
     };
@@ -156,7 +141,7 @@ fn run_task<K: Keeper, R: Source>(
     match task {
         Ok(task) => {
             if is_reserved(office_key, &task, &body) {
-                return Ok(refusal(Fault::Told(ToldFault::Store(StoreFault::KeyTaken))));
+                return Ok(refusal(Fault::Store(StoreFault::KeyTaken)));
             }
             Ok(reply(want, carry_out(alloc, keeper, task, &body)))
         }

@@ -30,19 +30,9 @@ pub fn answer_all<K: Keeper, R: Source, W: Sink>(
 {
     let routes = Routes::new(alloc).ok();
     let mut count = 0;
-    for connection in connections.iter_mut() {
-        if answer_by(
-            alloc,
-            routes.as_ref(),
-            keeper,
-            office_key,
-            &mut connection.0,
-            &mut connection.1,
-        )
-        .is_ok()
-        {
-            count += 1;
-        }
+    for (reader, writer) in connections.iter_mut() {
+        let served = answer_by(alloc, routes.as_ref(), keeper, office_key, reader, writer);
+        count += usize::from(served.is_ok());
     }
     count
 }

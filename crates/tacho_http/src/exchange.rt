@@ -1,6 +1,6 @@
 //! One request, one reply.
 
-ghost use Rattle.std.specs.Prelude.{◌≡◌, ◌↔◌, Err, false, true, length, IsErr, IsErrOf};
+ghost use Rattle.std.specs.Prelude.{◌≡◌, ◌↔◌, Err, false, true, IsErr, IsErrOf};
 ghost use Rattle.tacho_state.specs.State.{State};
 ghost use Rattle.tacho_http.specs.Answer.{Answered, Asks, Exchanged, IsUnfinished, MayAsk};
 
@@ -33,35 +33,6 @@ pub struct Served {
     pub status: Status,
 }
 
-/// Reads a request, with its head in these buffers, and does what it asks for.
-fn respond_in<K: Keeper, R: Source>(
-    alloc: Global,
-    routes: Option<&Routes>,
-    keeper: &mut K,
-    office_key: &[u8],
-    reader: &mut R,
-    buffer: &mut [u8],
-    fields: &mut [HeaderSpan],
-) -> Result<Response, Failed>
-    requires reader { R.has_failed reader.old ≡ false }
-    requires limit { length buffer.old ≡ 8192 }
-    requires room { length fields.old ≡ 32 }
-    ensures answered { Answered K.stands K.is_clean K.is_live K.leaves K.is_same keeper.old keeper.new office_key.now (R.unread reader.old) (R.unread reader.new) result }
-    ensures failed { IsErr result ↔ (R.has_failed reader.new ≡ true) }
-{
-    let head = match read_head(reader, buffer, fields) {
-        Ok(head) => head,
-        Err(HeadFault::Bad) => return Ok(fixed(Status::BadRequest)),
-        Err(HeadFault::TooLarge) => return Ok(fixed(Status::FieldsTooLarge)),
-        Err(HeadFault::Read) => return Err(Failed),
-    };
-    let request = request_of(&buffer[..head.filled], fields, &head.spans);
-    match request.key() {
-        Some(key) => by_key(alloc, routes, keeper, office_key, key, reader, &request),
-        None => Ok(fixed(Status::Forbidden)),
-    }
-}
-
 /// Reads a request and does what it asks for.
 fn respond<K: Keeper, R: Source>(
     alloc: Global,
@@ -76,15 +47,17 @@ fn respond<K: Keeper, R: Source>(
 {
     let mut buffer = [0u8; HEAD_LIMIT];
     let mut fields = [EMPTY_HEADER_SPAN; FIELD_LIMIT];
-    respond_in(
-        alloc,
-        routes,
-        keeper,
-        office_key,
-        reader,
-        &mut buffer,
-        &mut fields,
-    )
+    let head = match read_head(reader, &mut buffer, &mut fields) {
+        Ok(head) => head,
+        Err(HeadFault::Bad) => return Ok(fixed(Status::BadRequest)),
+        Err(HeadFault::TooLarge) => return Ok(fixed(Status::FieldsTooLarge)),
+        Err(HeadFault::Read) => return Err(Failed),
+    };
+    let request = request_of(&buffer[..head.filled], &fields, &head.spans);
+    match request.key() {
+        Some(key) => by_key(alloc, routes, keeper, office_key, key, reader, &request),
+        None => Ok(fixed(Status::Forbidden)),
+    }
 }
 
 /// Answers one request at an archive. Reads its head, and its body if what it asks for has one, acts, and writes one reply. A command that
@@ -138,8 +111,9 @@ pub fn answer_by<K: Keeper, R: Source, W: Sink>(
     ensures read { IsErrOf result IoFault.Read ↔ (R.has_failed reader.new ≡ true) }
     ensures write { IsErrOf result IoFault.Write ↔ (W.has_failed writer.new ≡ true) }
 {
-    let Ok(response) = respond(alloc, routes, keeper, office_key, reader) else {
-        return Err(IoFault::Read);
+    let response = match respond(alloc, routes, keeper, office_key, reader) {
+        Ok(response) => response,
+        Err(Failed) => return Err(IoFault::Read),
     };
     let status = response.status;
     match write_reply(writer, status, response.media, response.body.bytes()) {

@@ -1,7 +1,6 @@
 //! Requests to an archive over HTTP/1.1, and their replies: who may ask for what, and what is answered.
 #![tactic(auto)]
 
-mod asked;
 mod checks;
 mod connections;
 mod exchange;

@@ -1,8 +1,9 @@
 //! What paths offer. The routes come from the table of commands.
 
-ghost use Rattle.std.specs.Prelude.{◌≡◌, ◌∷◌, IfOk, OnOk, [], map, option_map};
+ghost use Rattle.std.specs.Prelude.{◌≡◌, IfOk, OnOk, [], map, option_map};
 ghost use Rattle.tacho_message.specs.declared.method.Method.TheVariants.{Get, Post};
 ghost use Rattle.tacho_desk.specs.Commands.{row_of};
+ghost use Rattle.tacho_http.specs.Asked.{asker_of, wish_at, wish_by, wish_found};
 ghost use Rattle.tacho_http.specs.Offers.{asker_of_path, offer_at, offers_in, offers_of, want_of as want_at};
 ghost use Rattle.tacho_http.specs.Routes.{driver_part, last_part, named_in, named_found, routes, with_offers};
 
@@ -11,6 +12,8 @@ use memchr::{memchr, memrchr};
 use std::alloc::Global;
 use std::marker::Model;
 use tacho_desk::{Act, Command, Want, command_table};
+use tacho_message::{Method, Status};
+use tacho_state::Caller;
 
 /// The length of `/drivers/`.
 const OF_DRIVER: usize = 9;
@@ -42,20 +45,13 @@ fn asker_at(path: &str) -> Asker
     }
 }
 
-/// Adds a path at which something is asked for.
-fn add(router: &mut Router<Place>, path: &str, want: Want) -> Result<(), InsertError>
-    ensures { OnOk result (router.new ≡ with_offers router.old (offer_at want path.now ∷ [])) }
-{
-    let asker = asker_at(path);
-    router.insert(path, Place { asker, want })
-}
-
 /// Adds the paths at which something is asked for.
 fn add_paths(router: &mut Router<Place>, paths: &[&str], want: Want) -> Result<(), InsertError>
     ensures { OnOk result (router.new ≡ with_offers router.old (map (offer_at want) (map (λ path. path.now) paths.now))) }
 {
     for path in paths {
-        add(router, path, want)?;
+        let asker = asker_at(path);
+        router.insert(path, Place { asker, want })?;
     }
     Ok(())
 }
@@ -67,14 +63,7 @@ fn want_of(act: Act) -> Option<Want>
     match act {
         Act::AtDesk(want) => Some(want),
         Act::Version => Some(Want::Version),
-        Act::Dump
-        | Act::Holder
-        | Act::Card
-        | Act::Init
-        | Act::Migrate
-        | Act::Check
-        | Act::Serve
-        | Act::Listen => None,
+        _ => None,
     }
 }
 
@@ -86,13 +75,10 @@ fn add_command(
 ) -> Result<(), InsertError>
     ensures { OnOk result (router.new ≡ with_offers router.old (offers_of posted (row_of command.now))) }
 {
-    let Some(want) = want_of(command.act) else {
-        return Ok(());
-    };
-    if want.changes() != posted {
-        return Ok(());
+    match want_of(command.act) {
+        Some(want) if want.changes() == posted => add_paths(router, command.paths, want),
+        _ => Ok(()),
     }
-    add_paths(router, command.paths, want)
 }
 
 /// Makes a router of the paths of a table's commands, those that are posted or those that aren't.
@@ -131,13 +117,6 @@ pub(crate) struct Found<'p> {
     pub word: &'p [u8],
 }
 
-/// What a path names by each method.
-#[derive(Clone, Copy)]
-pub(crate) struct Offered<'p> {
-    pub get: Option<Found<'p>>,
-    pub post: Option<Found<'p>>,
-}
-
 impl Routes {
     /// Makes the routes. Fails if memory runs out.
     pub fn new(alloc: Global) -> Result<Routes, InsertError> {
@@ -146,15 +125,44 @@ impl Routes {
         Ok(Routes { get, post })
     }
 
-    /// Finds what a path names by each method.
-    pub(crate) fn find<'p>(&self, path: &'p str) -> Offered<'p>
-        ensures get { option_map named_found result.get ≡ named_in (routes Get) path.now }
-        ensures post { option_map named_found result.post ≡ named_in (routes Post) path.now }
+    /// Finds what is asked for. Fails with 404 if the path names nothing, with 405 if it names nothing for the method, and with 403 if what
+    /// it names is for the other asker.
+    pub(crate) fn find<'p>(
+        &self,
+        caller: Caller,
+        method: Option<Method>,
+        path: &'p str,
+    ) -> Result<Found<'p>, Status>
+        ensures { wish_found result ≡ wish_by (asker_of caller) method (named_in (routes Get) path.now) (named_in (routes Post) path.now) }
     {
-        Offered {
-            get: find_in(&self.get, path),
-            post: find_in(&self.post, path),
+        let asker = match caller {
+            Caller::Office => Asker::Office,
+            Caller::Driver(_) => Asker::Driver,
+        };
+        let get = find_in(&self.get, path);
+        let post = find_in(&self.post, path);
+        match method {
+            Some(Method::Get) => asked_at(asker, get, post),
+            Some(Method::Post) => asked_at(asker, post, get),
+            None => asked_at(asker, None, get.or(post)),
         }
+    }
+}
+
+/// What is found for a method; otherwise 405 if something is found for another method, and 404 if nothing is. 403 if what is found is for
+/// the other asker.
+fn asked_at<'p>(
+    asker: Asker,
+    found: Option<Found<'p>>,
+    other: Option<Found<'p>>,
+) -> Result<Found<'p>, Status>
+    ensures { wish_found result ≡ wish_at asker (option_map named_found found.entry) (option_map named_found other.entry) }
+{
+    match found {
+        Some(found) if found.place.asker == asker => Ok(found),
+        Some(_) => Err(Status::Forbidden),
+        None if other.is_some() => Err(Status::MethodNotAllowed),
+        None => Err(Status::NotFound),
     }
 }
 

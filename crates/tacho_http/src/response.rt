@@ -1,11 +1,10 @@
 ghost use Rattle.std.specs.Prelude.{◌≡◌};
-ghost use Rattle.tacho_desk.specs.Told.{answer_of, told_text};
-ghost use Rattle.tacho_http.specs.Reply.{body_bytes, done_reply, fault_reply, fault_status, media_of as media_of_want, reply_of_status as fixed_reply, fixed_text, reply_of, reply_to, store_status};
+ghost use Rattle.tacho_desk.specs.Told.{answer_of};
+ghost use Rattle.tacho_http.specs.Reply.{body_bytes, fault_reply, fault_status, media_of as media_of_want, reply_of_status as fixed_reply, reply_of, reply_to, store_status};
 
-use tacho_card::CardFault;
 use tacho_desk::{Fault, MonthReading, Reading, Text, Want};
 use tacho_message::{MediaType, Status};
-use tacho_sheet::{Fault as ToldFault, FaultLine, SheetFault, fault_line};
+use tacho_sheet::{FaultLine, fault_line};
 use tacho_state::StoreFault;
 
 /// The body of a reply.
@@ -40,11 +39,11 @@ pub struct Response {
     pub body: Body,
 }
 
-/// The fixed text of a status.
-fn text_of(status: Status) -> &'static [u8]
-    ensures { result.now ≡ fixed_text status }
+/// The reply with the fixed text of a status. Allocates no memory.
+pub(crate) fn fixed(status: Status) -> Response
+    ensures { reply_of result ≡ fixed_reply status }
 {
-    match status {
+    let text: &'static [u8] = match status {
         Status::BadRequest => b"bad request\n",
         Status::Forbidden => b"forbidden\n",
         Status::NotFound => b"not found\n",
@@ -53,18 +52,12 @@ fn text_of(status: Status) -> &'static [u8]
         Status::PayloadTooLarge => b"too large\n",
         Status::FieldsTooLarge => b"head too large\n",
         Status::Unavailable => b"unavailable\n",
-        Status::Okay | Status::Created | Status::Conflict | Status::UnprocessableEntity => b"",
-    }
-}
-
-/// The reply with the fixed text of a status. Allocates no memory.
-pub(crate) fn fixed(status: Status) -> Response
-    ensures { reply_of result ≡ fixed_reply status }
-{
+        _ => b"",
+    };
     Response {
         status,
         media: MediaType::Text,
-        body: Body::Fixed(text_of(status)),
+        body: Body::Fixed(text),
     }
 }
 
@@ -83,26 +76,21 @@ fn status_of_store(fault: &StoreFault) -> Status
             Status::NotFound
         }
         StoreFault::NotYourCard => Status::Forbidden,
-        StoreFault::Card(CardFault::Memory)
-        | StoreFault::Store
-        | StoreFault::OldSchema
-        | StoreFault::Memory => Status::Unavailable,
+        StoreFault::Store | StoreFault::OldSchema | StoreFault::Memory => Status::Unavailable,
         StoreFault::NotMonday | StoreFault::Card(_) => Status::UnprocessableEntity,
     }
 }
 
 /// The status of a fault.
-fn status_of(fault: &ToldFault) -> Status
+fn status_of(fault: &Fault) -> Status
     ensures { result ≡ fault_status fault.now }
 {
     match fault {
-        ToldFault::Time(_) | ToldFault::Number | ToldFault::Part => Status::BadRequest,
-        ToldFault::TooLarge => Status::PayloadTooLarge,
-        ToldFault::Card(CardFault::Memory) | ToldFault::Sheet(SheetFault::Memory) => {
-            Status::Unavailable
-        }
-        ToldFault::Store(fault) => status_of_store(fault),
-        ToldFault::Card(_) | ToldFault::Sheet(_) => Status::UnprocessableEntity,
+        Fault::Time(_) | Fault::Number | Fault::Part => Status::BadRequest,
+        Fault::TooLarge => Status::PayloadTooLarge,
+        Fault::Store(fault) => status_of_store(fault),
+        Fault::Card(_) | Fault::Sheet(_) => Status::UnprocessableEntity,
+        Fault::Device | Fault::Memory => Status::Unavailable,
     }
 }
 
@@ -111,15 +99,12 @@ fn status_of(fault: &ToldFault) -> Status
 pub(crate) fn refusal(fault: Fault) -> Response
     ensures { reply_of result ≡ fault_reply fault }
 {
-    let Fault::Told(told) = fault else {
-        return fixed(Status::Unavailable);
-    };
-    match status_of(&told) {
+    match status_of(&fault) {
         Status::Unavailable => fixed(Status::Unavailable),
         status => Response {
             status,
             media: MediaType::Text,
-            body: Body::Line(fault_line(told)),
+            body: Body::Line(fault_line(fault)),
         },
     }
 }
@@ -132,40 +117,25 @@ fn media_of(want: Want) -> MediaType
         Want::File => MediaType::Octets,
         Want::MonthReading(MonthReading::Chart) => MediaType::Svg,
         Want::Reading(Reading::Form) | Want::MonthOfAll(_) => MediaType::Csv,
-        Want::Register
-        | Want::Import
-        | Want::Enter
-        | Want::Withdraw
-        | Want::Base
-        | Want::Key
-        | Want::Reading(_)
-        | Want::MonthReading(_)
-        | Want::Drivers
-        | Want::Version => MediaType::Text,
+        _ => MediaType::Text,
     }
 }
 
-/// The reply to a task of this kind that was done: 201 if something was added. Allocates no memory.
-fn done(want: Want, text: Text) -> Response
-    ensures { reply_of result ≡ done_reply want (told_text text) }
+/// The reply to what a task of this kind answered: 201 if something was added. Allocates no memory.
+pub(crate) fn reply(want: Want, answer: Result<Text, Fault>) -> Response
+    ensures { reply_of result ≡ reply_to want (answer_of answer) }
 {
+    let text = match answer {
+        Ok(text) => text,
+        Err(fault) => return refusal(fault),
+    };
     let status = match &text {
         Text::Added(_) => Status::Created,
-        Text::Line(_) | Text::Fixed(_) | Text::Long(_) | Text::File(_) => Status::Okay,
+        _ => Status::Okay,
     };
     Response {
         status,
         media: media_of(want),
         body: Body::Told(text),
-    }
-}
-
-/// The reply to what a task of this kind answered.
-pub(crate) fn reply(want: Want, answer: Result<Text, Fault>) -> Response
-    ensures { reply_of result ≡ reply_to want (answer_of answer) }
-{
-    match answer {
-        Ok(text) => done(want, text),
-        Err(fault) => refusal(fault),
     }
 }

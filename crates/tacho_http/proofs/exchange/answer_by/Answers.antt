@@ -1,28 +1,55 @@
-use Rattle.std.proofs.Common.{◌≤◌, List, length, refl, subst, take, ℕ}
-use Rattle.std.specs.Io.KnownBytes.{Appends}
-use Rattle.tacho_message.specs.Reply.{reply_bytes}
-use Rattle.tacho_http.proofs.RespondLemmas.{exchanged_begun, exchanged_unread, exchanged_whole, left_known}
+use Rattle.std.proofs.Common.{refl}
+use Rattle.tacho_message.specs.declared.reply.Status.TheVariants as status
+use Rattle.tacho_http.specs.Reply.{reply_of, reply_of_status}
 use Rattle.tacho_http.proofs.exchange.answer_by.Goals as goal
 
 pub returns-in-Ok-write_reply-clause-exchanged : goal.returns-in-Ok-write_reply-clause-exchanged
 returns-in-Ok-write_reply-clause-exchanged g c =
-    let r = c.in-Ok.response in
-    exchanged_whole (g.W.Sink.written c.args.writer.now) (g.W.Sink.written c.write_reply.new.writer) r c.in-Ok.ensures.answered
-    (subst (λ (body : List ℕ). Appends (g.W.Sink.written c.args.writer.now) (g.W.Sink.written c.write_reply.new.writer) (reply_bytes r.status r.media body))
-    c.bytes.ensures c.in-Ok-write_reply.ensures.all)
+    let a = c.in-Ok.ensures.answered in
+    record {
+      input = a.input;
+      told = a.told;
+      command = a.command;
+      posted = a.posted;
+      is_posted = λ read. a.is_posted;
+      reply = reply_of c.in-Ok.response;
+      replied = (refl, rw c.bytes.ensures at c.in-Ok-write_reply.ensures.all);
+      live = a.live;
+      settled = a.answers;
+      same = a.same;
+      crash = a.crash;
+    }
 
 pub returns-clause-exchanged : goal.returns-clause-exchanged
 returns-clause-exchanged g c =
-    let r = c.in-Ok.response in
-    exchanged_begun (g.W.Sink.written c.args.writer.now) (g.W.Sink.written c.write_reply.new.writer) r c.in-Ok.ensures.answered
-    (subst (λ (body : List ℕ). (n : ℕ) × (n ≤ length (reply_bytes r.status r.media body))
-    × Appends (g.W.Sink.written c.args.writer.now) (g.W.Sink.written c.write_reply.new.writer) (take n (reply_bytes r.status r.media body)))
-    c.bytes.ensures c.write_reply.ensures.beginning)
+    let a = c.in-Ok.ensures.answered in
+    record {
+      input = a.input;
+      told = a.told;
+      command = a.command;
+      posted = a.posted;
+      is_posted = λ read. a.is_posted;
+      reply = reply_of c.in-Ok.response;
+      replied = rw c.bytes.ensures at c.write_reply.ensures.beginning;
+      live = λ clean. tt;
+      settled = a.answers;
+      same = a.same;
+      crash = a.crash;
+    }
 
-pub returns-in_default-clause-exchanged : goal.returns-in_default-clause-exchanged
-returns-in_default-clause-exchanged g c =
-    exchanged_unread (g.W.Sink.written c.args.writer.now) (g.W.Sink.written c.args.writer.now) c.respond.result c.in_default.not-Ok c.respond.ensures.answered refl
-
-pub returns-in_default-clause-known : goal.returns-in_default-clause-known
-returns-in_default-clause-known g c clean s stood is =
-    left_known (g.W.Sink.written c.args.writer.now) (g.W.Sink.written c.args.writer.now) c.respond.result c.in_default.not-Ok c.respond.ensures.answered clean s stood
+pub returns-in-Err-clause-exchanged : goal.returns-in-Err-clause-exchanged
+returns-in-Err-clause-exchanged g c =
+    let a = c.in-Err.ensures.answered in
+    record {
+      input = a.input;
+      told = a.told;
+      command = a.command;
+      posted = a.posted;
+      is_posted = λ read. absurd read;
+      reply = reply_of_status status.Unavailable;
+      replied = refl;
+      live = λ clean. tt;
+      settled = a.answers;
+      same = a.same;
+      crash = a.crash;
+    }

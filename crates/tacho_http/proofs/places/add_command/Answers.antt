@@ -1,20 +1,17 @@
-use Rattle.std.proofs.Common.{◌∙◌, map, sym}
-use Rattle.tacho_http.specs.Offers.{want_of}
-use Rattle.tacho_http.proofs.RouteLemmas.{none_added, other_added, paths_added}
+use Rattle.std.proofs.Common.{◌≡◌, ◌∙◌, Bool, arith, refl, sym}
+use mathlib.Core.Bool.{beq}
+use Rattle.tacho_time.specs.Merge.{same_bool}
+use Rattle.tacho_http.specs.Routes.{with_offers}
+use Rattle.tacho_http.proofs.places.add_command.Goals.{in_default-via-in-Some+else-changes-posted, in_default-via-in_default}
 use Rattle.tacho_http.proofs.places.add_command.Goals as goal
 
+same_is : (a b : Bool) → same_bool a b ≡ beq a b
+same_is a b = grind arith
+
 pub returns-in_default : goal.returns-in_default
-returns-in_default c =
-    none_added c.args.router.now c.args.posted (want_of c.args.command.now.act) (map (λ path. path.now) c.args.command.now.paths.now)
-    (sym c.want_of.ensures ∙ c.in_default.is)
-
-pub returns-then-changes-posted : goal.returns-then-changes-posted
-returns-then-changes-posted c =
-    other_added c.args.router.now c.args.posted c.changes.result (want_of c.args.command.now.act) c.in-Some.want
-    (map (λ path. path.now) c.args.command.now.paths.now) (sym c.want_of.ensures ∙ c.in-Some.is) c.changes.ensures c.if-changes-posted.true
-
-pub returns : goal.returns
-returns c =
-    paths_added c.args.router.now c.add_paths.new.router c.args.posted c.changes.result (want_of c.args.command.now.act) c.in-Some.want
-    (map (λ path. path.now) c.args.command.now.paths.now) c.add_paths.result (sym c.want_of.ensures ∙ c.in-Some.is) c.changes.ensures
-    c.if-changes-posted.false c.add_paths.ensures
+unfolding with_offers
+returns-in_default c = elim c.in_default.branch [
+  | in_default-via-in-Some+else-changes-posted w ↦
+      rw (sym c.want_of.ensures ∙ w.in-Some.is, ← w.changes.ensures, same_is w.changes.result c.args.posted, w.if-changes-posted.false) refl
+  | in_default-via-in_default w ↦ rw (sym c.want_of.ensures ∙ w.in_default.is) refl
+]
