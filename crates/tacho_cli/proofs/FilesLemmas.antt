@@ -1,19 +1,21 @@
 -- Files that are imported one after the other, and one more file.
-use Rattle.std.proofs.Common.{◌≡◌, ◌∙◌, ◌++◌, ◌+◌, ◌<◌, ◌≤◌, ℕ, List, [], ◌∷◌, Bool, true, false, Option, Result, Ok, Err, append_assoc, append-nil, codes, length, map, take, drop, get_or, min, refl, sym, ap, subst, inl, inr, arith, length-append}
-use Rattle.std.proofs.lemmas.List.{drop_more, get_or-map, length-map, take-append-drop, take-append-le, take_all, take_min, take_more}
+use Rattle.std.proofs.Common.{◌≡◌, ◌∙◌, ◌++◌, ◌+◌, ◌<◌, ◌≤◌, ℕ, List, [], ◌∷◌, Bool, true, false, Option, Result, Ok, Err, append_assoc}
+use Rattle.std.proofs.Common.{append-nil, rules, length, map, take, drop, get_or, min, refl, sym, ap, subst, inl, inr, arith, length-append}
+use Rattle.std.proofs.lemmas.List.{drop_more, get_or-map, length-map, map-append, take-append-drop, take-append-le, take_all, take_min}
+use Rattle.std.proofs.lemmas.List.{take_more}
 use Rattle.std.proofs.lemmas.Grind.{flat_map-append}
 use Rattle.std.proofs.Math.Seq.{take-append-add}
 use Rattle.std.proofs.KnownBytes.{Appends-trans}
 use Rattle.std.specs.Io.KnownBytes.{Appends}
-use Rattle.std.specs.Prelude.{MatchBool, flat_map}
+use Rattle.std.specs.Prelude.{flat_map}
 use Rattle.tacho_card.specs.declared.file.Part.{Part}
 use Rattle.tacho_state.specs.State.{State}
 use Rattle.tacho_desk.specs.Doing.{CrashMayLeave, Doing, Done, IsDurable, Kept, LeavesAfter, Takes}
 use Rattle.tacho_desk.specs.Told.{Answer}
-use Rattle.tacho_desk.specs.declared.fault.Fault.{Fault}
+use Rattle.tacho_sheet.specs.declared.fault.Fault.{Fault}
 use Rattle.tacho_cli.specs.Command.{IsWrittenOut}
-use Rattle.tacho_cli.specs.Office.{reply_of_answer}
-use Rattle.tacho_cli.specs.Files.{AreBegun, AreBegunFirst, AreToldOut, FileAnswer, ImportsFile, ImportsFileKept, ImportsFiles, ImportsRead, InTurn, earlier_lines, ends, file_answer_line, import_status, import_text, shown_name, tally_line}
+use Rattle.tacho_cli.specs.Files.{AreBegun, AreBegunFirst, AreToldOut, FileAnswer, ImportsFile, ImportsFileKept, ImportsFiles, ImportsRead}
+use Rattle.tacho_cli.specs.Files.{InTurn, earlier_lines, ends, file_answer_line, import_status, tally_line}
 use Rattle.tacho_cli.specs.Tally.{AnswersFile, IsTally}
 use Rattle.tacho_cli.specs.declared.tally.Tally.{Tally}
 
@@ -23,80 +25,61 @@ use Rattle.tacho_cli.specs.declared.tally.Tally.{Tally}
 abbrev pub GoOn : List (List ℕ) → List FileAnswer → Type 0
 GoOn names files = (rest : List (List ℕ)) (more : List FileAnswer) → AreBegun rest more → AreBegun (names ++ rest) (files ++ more)
 
-names_at : (names : List (List ℕ)) (i : ℕ) → i < length names → take i names ++ get_or names i [] ∷ drop (i + 1) names ≡ names
-names_at names i h = ap (λ (l : List (List ℕ)). take i names ++ l) (sym (drop_more names i [] h)) ∙ take-append-drop i names
+at_place : {X : Type 0} (xs : List X) (i : ℕ) (d : X) → i < length xs → take i xs ++ get_or xs i d ∷ drop (i + 1) xs ≡ xs
+at_place xs i d h = ap (λ (l : List _). take i xs ++ l) (sym (drop_more xs i d h)) ∙ take-append-drop i xs
 
 -- the file at a place of the list
-module _ (names : List (List ℕ)) (i : ℕ) (files : List FileAnswer) (file : FileAnswer) (h : i < length names) (is : file.name ≡ get_or names i [])
+module _ (names : List (List ℕ)) (i : ℕ) (files : List FileAnswer) (answer : Answer) (h : i < length names)
     (go : GoOn (take i names) files) where
-  pub goes_on : ends file.answer ≡ false → GoOn (take (i + 1) names) (files ++ file ∷ [])
+  abbrev this : FileAnswer
+  this = record { name = get_or names i []; answer = answer }
+
+  pub goes_on : ends answer ≡ false → GoOn (take (i + 1) names) (files ++ this ∷ [])
   goes_on on rest more begun =
-      simp (take_more names i [] h, append_assoc) (go (get_or names i [] ∷ rest) (file ∷ more)
-      (is, subst (λ (b : Bool). MatchBool b (more ≡ []) (AreBegun rest more)) (sym on) begun))
+      simp (take_more names i [] h, append_assoc) (go (this.name ∷ rest) (this ∷ more) (refl, rw on begun))
 
-  pub ends_all : ends file.answer ≡ true → AreBegun names (files ++ file ∷ [])
+  pub ends_all : ends answer ≡ true → AreBegun names (files ++ this ∷ [])
   ends_all end =
-      let rest = drop (i + 1) names in
-      subst (λ (l : List (List ℕ)). AreBegun l (files ++ file ∷ [])) (names_at names i h) (go (get_or names i [] ∷ rest) (file ∷ [])
-      (is, subst (λ (b : Bool). MatchBool b (◌≡◌ {A = List FileAnswer} [] []) (AreBegun rest [])) (sym end) refl))
+      rw (at_place names i [] h) at (go (this.name ∷ drop (i + 1) names) (this ∷ []) (refl, rw end refl))
 
-  pub begun_first : AreBegunFirst names (files ++ file ∷ [])
+  pub begun_first : AreBegunFirst names (files ++ this ∷ [])
   begun_first = (
-    take i names ++ get_or names i [] ∷ [],
+    take i names ++ this.name ∷ [],
     drop (i + 1) names,
-    sym (append_assoc (take i names) (get_or names i [] ∷ []) (drop (i + 1) names) ∙ names_at names i h),
-    go (get_or names i [] ∷ []) (file ∷ []) (is, either (ends file.answer)),
+    sym (append_assoc (take i names) (this.name ∷ []) (drop (i + 1) names) ∙ at_place names i [] h),
+    go (this.name ∷ []) (this ∷ []) (refl, search rules),
   )
-    where
-      either : (b : Bool) → MatchBool b (◌≡◌ {A = List FileAnswer} [] []) (◌≡◌ {A = List (List ℕ)} [] [])
-      either true = refl
-      either false = refl
 
 pub all_begun : (names : List (List ℕ)) (i : ℕ) (files : List FileAnswer) → length names ≤ i → GoOn (take i names) files → AreBegun names files
 all_begun names i files h go = simp (take_all i names h, append-nil) at (go [] [] refl)
 
--- what is shown for the name at a place
-pub shown_at : {A B : Type 0} (f : A → List ℕ) (g : B → List ℕ) (shown : List A) (names : List B) (i : ℕ) (one : A) (name : List ℕ)
-    → map f shown ≡ map shown_name (map g names) → i < length shown → i < length names → name ≡ f one → one ≡ get_or shown i one
-    → name ≡ shown_name (get_or (map g names) i [])
-shown_at f g shown names i one name same h k e is =
-    e ∙ ap f is ∙ sym (get_or-map f shown i one [] h) ∙ ap (λ (l : List (List ℕ)). get_or l i []) same
-    ∙ get_or-map shown_name (map g names) i [] [] (rw length-map k)
-
--- the name at a place
-pub named_at : {B : Type 0} (g : B → List ℕ) (names : List B) (i : ℕ) (one : B) (name : List ℕ) → i < length names → name ≡ g one
-    → one ≡ get_or names i one → name ≡ get_or (map g names) i []
-named_at g names i one name h e is = e ∙ ap g is ∙ sym (get_or-map g names i one [] h)
+-- a name at a place
+pub named_at : {B : Type 0} (g : B → List ℕ) (names : List B) (i : ℕ) (one : B) → i < length names → one ≡ get_or names i one
+    → (i < length (map g names)) × (g one ≡ get_or (map g names) i [])
+named_at g names i one h is = (rw length-map h, ap g is ∙ sym (get_or-map g names i one [] h))
 
 -- ---- the texts
 
--- the line of a file, written with its name as it is shown
-module _ (old new : Option (List ℕ)) (shown : List ℕ) (file : FileAnswer) (is : shown ≡ shown_name file.name) where
-  abbrev line_of : List ℕ → List ℕ
-  line_of name = name ++ (codes ": " ++ (reply_of_answer file.answer).text)
-
-  pub line_told : Appends old new (line_of shown) → Appends old new (file_answer_line file)
-  line_told h = subst (λ (name : List ℕ). Appends old new (line_of name)) is h
-
-  pub line_begun : (n : ℕ) × Appends old new (take n (line_of shown)) → (n : ℕ) × Appends old new (take n (file_answer_line file))
-  line_begun h = (h.0, subst (λ (name : List ℕ). Appends old new (take h.0 (line_of name))) is h.1)
-
--- after a front, a beginning of the rest is appended
-pub begun_after : (old mid new : Option (List ℕ)) (front rest : List ℕ) (n : ℕ) → Appends old mid front → Appends mid new (take n rest)
-    → (m : ℕ) × (length front ≤ m) × Appends old new (take m (front ++ rest))
-begun_after old mid new front rest n before now = (
-  length front + n,
-  omega arith,
-  subst (Appends old new) (sym (take-append-add front rest n)) (Appends-trans old mid new front (take n rest) before now),
-)
-
--- a beginning of a text is one of a longer text
-pub begun_longer : (old new : Option (List ℕ)) (text rest : List ℕ) (n : ℕ) → Appends old new (take n text)
-    → (m : ℕ) × Appends old new (take m (text ++ rest))
-begun_longer old new text rest n h =
+-- after a front, a beginning of the text that follows is appended
+pub begun : (old mid new : Option (List ℕ)) (front text rest : List ℕ) (n : ℕ) → Appends old mid front → Appends mid new (take n text)
+    → (m : ℕ) × (length front ≤ m) × Appends old new (take m (front ++ (text ++ rest)))
+begun old mid new front text rest n before now =
     let m = min n (length text) in
     let le : m ≤ length text = omega arith in
-    (m, subst (Appends old new) (sym (take_min n text) ∙ sym (take-append-le m text rest le)) h)
+    let same : front ++ take n text ≡ take (length front + m) (front ++ (text ++ rest)) =
+    ap (λ (l : List ℕ). front ++ l) (sym (take_min n text) ∙ sym (take-append-le m text rest le))
+    ∙ sym (take-append-add front (text ++ rest) m) in
+    (length front + m, omega arith, subst (Appends old new) same (Appends-trans old mid new front (take n text) before now))
+
+-- likewise within what is shown of a name
+pub begun_at : (old mid new : Option (List ℕ)) (f : ℕ → ℕ) (name rest : List ℕ) (i n : ℕ) → i < length name
+    → Appends old mid (map f (take i name)) → Appends mid new (take n (f (get_or name i 0) ∷ []))
+    → (m : ℕ) × Appends old new (take m (map f name ++ rest))
+begun_at old mid new f name rest i n h before now =
+    let t = begun old mid new (map f (take i name)) (f (get_or name i 0) ∷ []) (map f (drop (i + 1) name) ++ rest) n before now in
+    let whole : map f (take i name) ++ f (get_or name i 0) ∷ map f (drop (i + 1) name) ≡ map f name =
+    sym (map-append f (take i name) (get_or name i 0 ∷ drop (i + 1) name)) ∙ ap (map f) (at_place name i 0 h) in
+    (t.0, rw (← whole) (simp append_assoc t.2))
 
 earlier_more : (files : List FileAnswer) (file : FileAnswer) → earlier_lines (files ++ file ∷ []) ≡ flat_map file_answer_line files
 earlier_more [] file = refl
@@ -109,40 +92,31 @@ earlier_le (f ∷ []) = omega arith
 earlier_le (f ∷ g ∷ files) =
     let le = earlier_le (g ∷ files) in simp length-append (omega (arith, simp length-append at le))
 
-lines_more : (files : List FileAnswer) (file : FileAnswer)
-    → flat_map file_answer_line (files ++ file ∷ []) ≡ flat_map file_answer_line files ++ file_answer_line file
-lines_more files file =
-    flat_map-append file_answer_line files (file ∷ []) ∙ ap (λ (l : List ℕ). flat_map file_answer_line files ++ l) (append-nil (file_answer_line file))
-
 module _ (files : List FileAnswer) (old mid new : Option (List ℕ)) (before : Appends old mid (flat_map file_answer_line files)) where
   -- the line of one more file
   pub told_more : (file : FileAnswer) → Appends mid new (file_answer_line file) → Appends old new (flat_map file_answer_line (files ++ file ∷ []))
   told_more file now =
-      subst (Appends old new) (sym (lines_more files file)) (Appends-trans old mid new (flat_map file_answer_line files) (file_answer_line file) before now)
+      simp (flat_map-append, append-nil) (Appends-trans old mid new (flat_map file_answer_line files) (file_answer_line file) before now)
 
   -- it was not written whole
   pub told_short : (names : List (List ℕ)) (file : FileAnswer) → AreBegunFirst names (files ++ file ∷ [])
       → (n : ℕ) × Appends mid new (take n (file_answer_line file)) → AreToldOut names (files ++ file ∷ []) true old new 3
   told_short names file first now =
       let lines = flat_map file_answer_line files in
-      let tally = tally_line (files ++ file ∷ []) in
-      let l = begun_longer mid new (file_answer_line file) tally now.0 now.1 in
-      let t = begun_after old mid new lines (file_answer_line file ++ tally) l.0 before l.1 in
-      let same : lines ++ (file_answer_line file ++ tally) ≡ import_text (files ++ file ∷ []) =
-      sym (append_assoc lines (file_answer_line file) tally) ∙ ap (λ (l : List ℕ). l ++ tally) (sym (lines_more files file)) in
-      (first, (t.0, rw (earlier_more files file) t.1, subst (λ (l : List ℕ). Appends old new (take t.0 l)) same t.2), refl)
+      let t = begun old mid new lines (file_answer_line file) (tally_line (files ++ file ∷ [])) now.0 before now.1 in
+      (first, (t.0, rw (earlier_more files file) t.1, simp (flat_map-append, append-nil, append_assoc) (simp append_assoc at t.2)), refl)
 
   -- the line of the tally was written, or a beginning of it
   pub told_out : (names : List (List ℕ)) (failed : Bool) (status : ℕ) → AreBegun names files
       → IsWrittenOut failed mid new (record { text = tally_line files; status = import_status files }) status → AreToldOut names files failed old new status
-  told_out names true status begun (h, is) =
-      let t = begun_after old mid new (flat_map file_answer_line files) (tally_line files) h.0 before h.1 in
+  told_out names true status all (h, is) =
+      let t = begun old mid new (flat_map file_answer_line files) (tally_line files) [] h.0 before h.1 in
       let le = earlier_le files in
-      ((names, [], sym (append-nil names), begun), (t.0, omega (arith, t.1), t.2), is)
-  told_out names false status begun (h, is) =
-      (begun, Appends-trans old mid new (flat_map file_answer_line files) (tally_line files) before h, is)
+      ((names, [], sym (append-nil names), all), (t.0, omega (arith, t.1), simp append-nil at t.2), is)
+  told_out names false status all (h, is) =
+      (all, Appends-trans old mid new (flat_map file_answer_line files) (tally_line files) before h, is)
 
--- the files so far, and what was told of them
+-- the files so far, and the lines that were written for them
 pub record AreTold (Are : List FileAnswer → Type 0) (old new : Option (List ℕ)) (tally : Tally) (files : List FileAnswer) : Type 0 where
   pub are : Are files
   pub told : Appends old new (flat_map file_answer_line files)
@@ -179,12 +153,6 @@ pub record Imported {K : Type 0} (Gives : List ℕ → Result (List ℕ) Fault �
   pub crash : is_clean new → (a : Kept) → stands old a.state → leaves old a.past
       → (b : Kept) × stands new b.state × leaves new b.past × InTurn (ImportsFileKept Gives p) files a b
 
--- none
-pub imported_none : {K : Type 0} {Gives : List ℕ → Result (List ℕ) Fault → Type 0} {stands : K → State → Type 0} {is_clean : K → Type 0} {leaves : K → List State → Type 0} {keeper : K} {p : Part}
-    {Are : List FileAnswer → Type 0} → Are [] → Imported Gives stands is_clean leaves keeper keeper p Are
-imported_none are =
-    record { files = []; are = are; clean = λ clean. clean; run = λ clean s st. (s, st, refl); crash = λ clean a st l. (a, st, l, refl) }
-
 module _ {K : Type 0} {Gives : List ℕ → Result (List ℕ) Fault → Type 0} {stands : K → State → Type 0} {is_clean : K → Type 0} {leaves : K → List State → Type 0} {old mid : K} {p : Part}
     {Are : List FileAnswer → Type 0} (before : Imported Gives stands is_clean leaves old mid p Are) where
   -- one more
@@ -208,6 +176,12 @@ module _ {K : Type 0} {Gives : List ℕ → Result (List ℕ) Fault → Type 0} 
             (a.serves.kept refl clean r.0.state r.1) (a.serves.crash clean r.0.state r.0.past r.1 r.2) in
             (t.0, t.1, t.2, in_turn_more (ImportsFileKept Gives p) before.files file k r.0 t.0 r.3 (record { read = a.read; given = a.given; is = a.is; took = t.3; kept = t.4 }));
       }
+
+  -- likewise with another property
+  pub imported_as : (Next : List FileAnswer → Type 0) → ((files : List FileAnswer) → Are files → Next files)
+      → Imported Gives stands is_clean leaves old mid p Next
+  imported_as Next next =
+      record { files = before.files; are = next before.files before.are; clean = before.clean; run = before.run; crash = before.crash }
 
   -- they are all
   pub imports_files : {names : List (List ℕ)} {failed : Bool} {text_old text_new : Option (List ℕ)} {status : ℕ}

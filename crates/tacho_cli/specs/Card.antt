@@ -5,9 +5,8 @@ use Rattle.tacho_card.specs.declared.fault.CardFault.{CardFault}
 use Rattle.tacho_card.specs.declared.file.Part.{Part}
 use Rattle.tacho_state.specs.Content.{FileTells}
 use Rattle.tacho_state.specs.Steps.{Content}
-use Rattle.tacho_sheet.specs.declared.fault.Fault.TheVariants as told
 use Rattle.tacho_desk.specs.Words.{part_of}
-use Rattle.tacho_desk.specs.declared.fault.Fault.TheVariants as fault
+use Rattle.tacho_sheet.specs.declared.fault.Fault.TheVariants as fault
 use Rattle.tacho_cli.specs.Command.{Reply, failure_reply, card_reply}
 
 -- the lines of the spans of a file, or the line of its first fault
@@ -21,13 +20,13 @@ IsListed part bytes text = (content : Content) × FileTells part bytes (Ok conte
 
 -- the reply to an argument that names no part: P1
 abbrev pub no_part_reply : Reply
-no_part_reply = failure_reply (fault.Told told.Part)
+no_part_reply = failure_reply fault.Part
 
 -- the reply to an input, read by a part: the spans of the file or its fault, unless the file is too large
 abbrev pub IsCardBy : Option Part → List ℕ → Reply → Type 0
 IsCardBy None input reply = reply ≡ no_part_reply
 IsCardBy (Some part) input reply =
-    ((262144 < length input) × (reply ≡ failure_reply (fault.Told told.TooLarge)))
+    ((262144 < length input) × (reply ≡ failure_reply fault.TooLarge))
     ⊎ ((length input ≤ 262144) × ((content : Result Content CardFault) × FileTells part input content × (reply ≡ content_reply content)))
 
 abbrev pub IsCard : List ℕ → List ℕ → Reply → Type 0

@@ -2,10 +2,11 @@
 use Rattle.std.specs.Prelude.{◌≡◌, ℕ, ◌⊎◌, List, Option, Bool, true, false, take, IfSome}
 use Rattle.std.specs.Io.KnownBytes.{Appends}
 use Rattle.tacho_card.specs.declared.fault.CardFault.{CardFault}
-use Rattle.tacho_desk.specs.declared.fault.Fault.{Fault}
-use Rattle.tacho_desk.specs.declared.fault.Fault.TheVariants as fault
-use Rattle.tacho_desk.specs.Fault.{card_fault}
-use Rattle.tacho_cli.specs.Fault.{command_fault_line, exit_status}
+use Rattle.tacho_sheet.specs.declared.fault.Fault.{Fault}
+use Rattle.tacho_sheet.specs.declared.fault.Fault.TheVariants as fault
+use Rattle.tacho_sheet.specs.Fault.{card_fault}
+use Rattle.tacho_sheet.specs.Lines.{fault_line}
+use Rattle.tacho_cli.specs.Fault.{exit_status}
 
 -- the text that is written, and the program's exit status
 pub record Reply : Type 0 where
@@ -14,7 +15,7 @@ pub record Reply : Type 0 where
 
 -- the reply to a fault of the command; below, to a fault of a card
 abbrev pub failure_reply : Fault → Reply
-failure_reply f = record { text = command_fault_line f; status = exit_status f }
+failure_reply f = record { text = fault_line f; status = exit_status f }
 
 abbrev pub card_reply : CardFault → Reply
 card_reply f = failure_reply (card_fault f)

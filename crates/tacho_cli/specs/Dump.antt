@@ -5,8 +5,7 @@ use Rattle.tacho_time.specs.Text.{span_line}
 use Rattle.tacho_card.specs.declared.fault.CardFault.{CardFault}
 use Rattle.tacho_card.specs.DriverActivity.{DriverActivity, driver_activity}
 use Rattle.tacho_card.specs.Reading.{IsReading}
-use Rattle.tacho_sheet.specs.declared.fault.Fault.TheVariants as told
-use Rattle.tacho_desk.specs.declared.fault.Fault.TheVariants as fault
+use Rattle.tacho_sheet.specs.declared.fault.Fault.TheVariants as fault
 use Rattle.tacho_cli.specs.Command.{Reply, failure_reply, card_reply}
 
 -- the spans or the fault of activity data whose pointers are valid, or else the fault of the pointers
@@ -30,5 +29,5 @@ reading_reply (Err f) = card_reply f
 -- the reply to an input: its spans or its fault, unless it is too large
 abbrev pub IsDump : List ℕ → Reply → Type 0
 IsDump input reply =
-    ((65535 < length input) × (reply ≡ failure_reply (fault.Told told.TooLarge)))
+    ((65535 < length input) × (reply ≡ failure_reply fault.TooLarge))
     ⊎ ((length input ≤ 65535) × ((reading : Result (List Span) CardFault) × ReadsValue input reading × (reply ≡ reading_reply reading)))

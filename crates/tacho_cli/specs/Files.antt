@@ -5,13 +5,11 @@ use Rattle.tacho_card.specs.declared.file.Part.{Part}
 use Rattle.tacho_state.specs.State.{State}
 use Rattle.tacho_state.specs.declared.caller.Caller.TheVariants as caller
 use Rattle.tacho_state.specs.declared.fault.StoreFault.TheVariants as store
-use Rattle.tacho_sheet.specs.declared.fault.Fault.TheVariants as told
 use Rattle.tacho_desk.specs.Doing.{Doing, Kept, LeavesAfter, Refuses, Takes}
 use Rattle.tacho_desk.specs.Tasks.{Imports}
 use Rattle.tacho_desk.specs.Told.{Answer, Added}
-use Rattle.tacho_desk.specs.declared.fault.Fault.{Fault}
-use Rattle.tacho_desk.specs.declared.fault.Fault.TheVariants as fault
-use Rattle.tacho_cli.specs.Command.{IsWrittenOut, failure_reply}
+use Rattle.tacho_sheet.specs.declared.fault.Fault.{Fault}
+use Rattle.tacho_sheet.specs.declared.fault.Fault.TheVariants as fault
 use Rattle.tacho_cli.specs.Office.{reply_of_answer}
 
 -- ---- one file
@@ -32,7 +30,7 @@ shown_name = map shown_byte
 -- out (M1)
 abbrev pub IsFileRead : Result (List ℕ) Fault → Type 0
 IsFileRead (Ok bytes) = length bytes ≤ 262144
-IsFileRead (Err (fault.Told told.TooLarge)) = Unit {0}
+IsFileRead (Err fault.TooLarge) = Unit {0}
 IsFileRead (Err fault.Device) = Unit {0}
 IsFileRead (Err fault.Memory) = Unit {0}
 IsFileRead (Err f) = ⊥
@@ -67,7 +65,7 @@ InTurn {S = S} step (c ∷ cs) s t = (m : S) × step c s m × InTurn step cs m t
 -- no further file is begun after this answer: memory ran out, or the store failed
 abbrev pub ends : Answer → Bool
 ends (Err fault.Memory) = true
-ends (Err (fault.Told (told.Store store.Store))) = true
+ends (Err (fault.Store store.Store)) = true
 ends answer = false
 
 -- the files were begun in order: all of them, or up to one that ended the import
@@ -140,8 +138,3 @@ pub record ImportsFiles {K : Type 0} (Gives : List ℕ → Result (List ℕ) Fau
   pub run : is_clean new → (s : State) → stands old s → (t : State) × stands new t × InTurn (ImportsFile Gives p) files s t
   pub crash : is_clean new → (a : Kept) → stands old a.state → leaves old a.past
       → (b : Kept) × stands new b.state × leaves new b.past × InTurn (ImportsFileKept Gives p) files a b
-
--- memory ran out before the first file: M1, and nothing was done
-pub record HasNotBegun {K : Type 0} (old new : K) (writer_failed : Bool) (text_old text_new : Option (List ℕ)) (status : ℕ) : Type 0 where
-  pub same : new ≡ old
-  pub told : IsWrittenOut writer_failed text_old text_new (failure_reply fault.Memory) status

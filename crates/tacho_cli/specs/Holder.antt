@@ -1,10 +1,9 @@
--- Trusted in part: The reply of `holder` to an input.
+-- Trusted: The reply of `holder` to an input.
 use Rattle.std.specs.Prelude.{◌≡◌, ℕ, ◌<◌, ◌≤◌, ◌⊎◌, List, ◌++◌, Result, Ok, Err, length, codes, flat_map}
 use Rattle.tacho_card.specs.declared.fault.CardFault.{CardFault}
 use Rattle.tacho_card.specs.CardFile.{FileBlock, card_file, file_holder}
 use Rattle.tacho_sheet.specs.Lines.{byte_digits}
-use Rattle.tacho_sheet.specs.declared.fault.Fault.TheVariants as told
-use Rattle.tacho_desk.specs.declared.fault.Fault.TheVariants as fault
+use Rattle.tacho_sheet.specs.declared.fault.Fault.TheVariants as fault
 use Rattle.tacho_cli.specs.Command.{Reply, failure_reply, card_reply}
 
 -- the hexadecimal digits of a holder, and a line feed
@@ -25,12 +24,8 @@ abbrev pub holder_reply : Result (List ℕ) CardFault → Reply
 holder_reply (Ok holder) = record { text = holder_line holder; status = 0 }
 holder_reply (Err f) = card_reply f
 
--- the text is the line of the file's holder
-abbrev pub IsHolderText : List ℕ → List ℕ → Type 0
-IsHolderText bytes text = (holder : List ℕ) × (card_holder bytes ≡ Ok holder) × (text ≡ holder_line holder)
-
 -- the reply to an input: the line of its holder or its fault, unless it is too large
 abbrev pub IsHolder : List ℕ → Reply → Type 0
 IsHolder input reply =
-    ((262144 < length input) × (reply ≡ failure_reply (fault.Told told.TooLarge)))
+    ((262144 < length input) × (reply ≡ failure_reply fault.TooLarge))
     ⊎ ((length input ≤ 262144) × (reply ≡ holder_reply (card_holder input)))

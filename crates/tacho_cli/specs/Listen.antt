@@ -2,10 +2,10 @@
 use Rattle.std.specs.Prelude.{◌≡◌, ◌⊎◌, ℕ, Bool, true, List, Option, Ok, Err}
 use Rattle.tacho_sheet.specs.Key.{IsKeyLine, IsKeyRead}
 use Rattle.tacho_sheet.specs.declared.fault.SheetFault.{SheetFault}
-use Rattle.tacho_desk.specs.Fault.{sheet_fault}
+use Rattle.tacho_sheet.specs.Fault.{sheet_fault}
 use Rattle.tacho_desk.specs.Told.{Answer}
-use Rattle.tacho_desk.specs.declared.fault.Fault.{Fault}
-use Rattle.tacho_desk.specs.declared.fault.Fault.TheVariants as fault
+use Rattle.tacho_sheet.specs.declared.fault.Fault.{Fault}
+use Rattle.tacho_sheet.specs.declared.fault.Fault.TheVariants as fault
 use Rattle.tacho_cli.specs.Office.{HasNotRead, HasRead}
 
 -- the reader's whole input was read, and is a line with this key

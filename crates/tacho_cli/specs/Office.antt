@@ -2,14 +2,13 @@
 use Rattle.std.specs.Prelude.{◌≡◌, ℕ, ◌<◌, ◌≤◌, ◌⊎◌, Bool, true, false, List, [], Option, Ok, Err, IfSome, length}
 use Rattle.tacho_state.specs.State.{State}
 use Rattle.tacho_state.specs.declared.caller.Caller.TheVariants as caller
-use Rattle.tacho_sheet.specs.declared.fault.Fault.TheVariants as told
 use Rattle.tacho_desk.specs.Doing.{AsksOnly, Doing, Refuses, Serves}
 use Rattle.tacho_desk.specs.Tasks.{Does, IsFaulty, IsSound}
 use Rattle.tacho_desk.specs.Told.{Answer, bytes_of}
 use Rattle.tacho_desk.specs.Wants.{is_command, takes_input}
 use Rattle.tacho_desk.specs.Words.{IsTask, Wanted}
-use Rattle.tacho_desk.specs.declared.fault.Fault.{Fault}
-use Rattle.tacho_desk.specs.declared.fault.Fault.TheVariants as fault
+use Rattle.tacho_sheet.specs.declared.fault.Fault.{Fault}
+use Rattle.tacho_sheet.specs.declared.fault.Fault.TheVariants as fault
 use Rattle.tacho_desk.specs.declared.task.Task.{Task}
 use Rattle.tacho_desk.specs.declared.want.Want.{Want}
 use Rattle.tacho_cli.specs.Command.{Reply, failure_reply, IsWrittenOut}
@@ -21,7 +20,7 @@ use Rattle.tacho_cli.specs.declared.job.Job.TheVariants as job
 -- X1 if the input is too large, otherwise what is done
 abbrev pub Sized : List ℕ → State → Doing → Doing
 Sized input s Does answer after =
-    ((262144 < length input) × (answer ≡ Err (fault.Told told.TooLarge)) × (after ≡ s)) ⊎ ((length input ≤ 262144) × Does answer after)
+    ((262144 < length input) × (answer ≡ Err fault.TooLarge) × (after ≡ s)) ⊎ ((length input ≤ 262144) × Does answer after)
 
 -- a task with its input, or without one
 abbrev pub DoesOver : Bool → Task → List ℕ → State → Doing
@@ -50,7 +49,7 @@ AreSound want driver word input = (t : Task) × IsTask want caller.Office driver
 
 -- the arguments have a fault, or else the input has
 abbrev pub IsFaultyOver : Bool → Task → List ℕ → Fault → Type 0
-IsFaultyOver true t input f = ((262144 < length input) × (f ≡ fault.Told told.TooLarge)) ⊎ ((length input ≤ 262144) × IsFaulty t input f)
+IsFaultyOver true t input f = ((262144 < length input) × (f ≡ fault.TooLarge)) ⊎ ((length input ≤ 262144) × IsFaulty t input f)
 IsFaultyOver false t input f = ⊥
 
 abbrev pub IsFaultOfTask : Bool → Wanted → List ℕ → Fault → Type 0
@@ -71,7 +70,7 @@ pub record HasRead (unread : Option (List ℕ)) (failed : Bool) (input : List �
 
 -- why it was not read: it was too large, the reader failed, or memory ran out
 abbrev pub HasNotRead : Option (List ℕ) → Bool → Fault → Type 0
-HasNotRead unread failed (fault.Told told.TooLarge) = IfSome unread (λ all. 262144 < length all) × ¬ (failed ≡ true)
+HasNotRead unread failed fault.TooLarge = IfSome unread (λ all. 262144 < length all) × ¬ (failed ≡ true)
 HasNotRead unread failed fault.Device = failed ≡ true
 HasNotRead unread failed fault.Memory = ¬ (failed ≡ true)
 HasNotRead unread failed f = ⊥

@@ -4,7 +4,7 @@ use Rattle.tacho_card.specs.declared.file.Part.{Part}
 use Rattle.tacho_state.specs.State.{State}
 use Rattle.tacho_desk.specs.Doing.{Serves}
 use Rattle.tacho_desk.specs.Told.{Answer}
-use Rattle.tacho_desk.specs.declared.fault.Fault.{Fault}
+use Rattle.tacho_sheet.specs.declared.fault.Fault.{Fault}
 use Rattle.tacho_cli.specs.Files.{FileAnswer, ImportsRead, IsFileRead, count_of, ends, is_added, is_refused, is_repeated}
 use Rattle.tacho_cli.specs.declared.tally.Tally.{Tally}
 

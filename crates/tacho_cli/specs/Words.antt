@@ -1,5 +1,5 @@
 -- Trusted in part: The command line, and the job that its arguments name.
-use Rattle.std.specs.Prelude.{◌≡◌, ◌≢◌, ◌⊎◌, ℕ, Bool, true, false, List, [], ◌∷◌, Option, None, Some, bytes_eq, codes, not, ◌==◌, if◌then◌else◌}
+use Rattle.std.specs.Prelude.{◌≡◌, ◌≢◌, ◌⊎◌, ℕ, Bool, true, false, List, [], ◌∷◌, Option, None, Some, bytes_eq, codes, map, not, ◌==◌, if◌then◌else◌}
 use Rattle.std.specs.Option.{option_or}
 use Rattle.tacho_sheet.specs.Number.{HasNoNumber, IsNumberText}
 use Rattle.clap.specs.Words.{App, Row, Rule, Text, first_of, new_app, new_rule, with_rule, with_subcommand}
@@ -10,7 +10,7 @@ use Rattle.tacho_cli.specs.declared.words.Usage.TheVariants as usage
 use Rattle.tacho_desk.specs.Wants.{takes_input}
 use Rattle.tacho_desk.specs.declared.table.Act.{Act}
 use Rattle.tacho_desk.specs.declared.table.Act.TheVariants as act
-use Rattle.tacho_desk.specs.Commands.{Row as Command, all_commands}
+use Rattle.tacho_desk.specs.Commands.{Row as Command, all_commands, name_of}
 use Rattle.tacho_cli.specs.declared.job.Job.{Job}
 use Rattle.tacho_cli.specs.declared.job.Job.TheVariants as job
 
@@ -33,7 +33,7 @@ with_words app (id ∷ ids) = with_words (with_rule app (word_rule id)) ids
 -- a command with these subcommands, each with its arguments
 unfoldable pub with_table : App → List Command → App
 with_table app [] = app
-with_table app (row ∷ table) = with_table (with_subcommand app (with_words (new_app row.name) row.words).top) table
+with_table app (row ∷ table) = with_table (with_subcommand app (with_words (new_app row.name) (map name_of row.arguments)).top) table
 
 -- a command of which one subcommand is required
 abbrev pub needs_subcommand : App → App

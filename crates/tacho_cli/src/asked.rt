@@ -2,7 +2,7 @@
 
 ghost use Rattle.std.specs.Prelude.{◌≡◌, map, option_map, string_bytes};
 ghost use Rattle.std.specs.List.{list_any};
-ghost use Rattle.tacho_cli.specs.Asked.{early_alone, early_asked, early_of, early_with, files_in, help_on, is_flag, is_help, is_version, names_command};
+ghost use Rattle.tacho_cli.specs.Asked.{early_alone, early_asked, early_of, early_with, files_in, help_on, is_flag, is_help, names_command};
 
 use crate::words::act_of;
 
@@ -24,13 +24,14 @@ pub enum Asked<'a> {
 }
 
 /// What the arguments of a command line ask for without the parser, if they do. The first is the program's name.
+#[tactic(auto, using(crate::proofs::AskedLemmas::none_early))]
 pub fn asked_early<'a>(words: &'a [String]) -> Option<Asked<'a>>
     ensures { option_map early_asked result ≡ early_of (map string_bytes words.entry.now) }
 {
-    let word = words.get(1)?;
-    match words.get(2) {
-        Some(next) => asked_with(word, next, &words[3..]),
-        None => asked_alone(word),
+    match words {
+        [_, word] => asked_alone(word),
+        [_, word, next, rest @ ..] => asked_with(word, next, rest),
+        _ => None,
     }
 }
 
@@ -38,12 +39,10 @@ pub fn asked_early<'a>(words: &'a [String]) -> Option<Asked<'a>>
 fn asked_alone<'a>(word: &'a str) -> Option<Asked<'a>>
     ensures { option_map early_asked result ≡ early_alone word.entry.now }
 {
-    if word == "help" || asks_help(word) {
-        Some(Asked::Help)
-    } else if asks_version(word) {
-        Some(Asked::Version)
-    } else {
-        None
+    match word {
+        "help" | "--help" | "-h" => Some(Asked::Help),
+        "--version" | "-V" => Some(Asked::Version),
+        _ => None,
     }
 }
 
@@ -69,13 +68,6 @@ fn asks_help(word: &str) -> bool
     word == "--help" || word == "-h"
 }
 
-/// Whether an argument is another name of `version`.
-fn asks_version(word: &str) -> bool
-    ensures { result ≡ is_version word.now }
-{
-    word == "--version" || word == "-V"
-}
-
 /// Whether a command has this name.
 fn is_command(word: &str) -> bool
     ensures { result ≡ names_command word.now }
@@ -94,22 +86,17 @@ fn begins_with_hyphen(word: &str) -> bool
 fn any_flag(words: &[String]) -> bool
     ensures { result ≡ list_any is_flag (map string_bytes words.now) }
 {
-    for word in words {
-        if begins_with_hyphen(word) {
-            return true;
-        }
-    }
-    false
+    words.iter().any(|word| begins_with_hyphen(word))
 }
 
 /// The command that follows `help`.
+#[tactic(auto, using(crate::proofs::AskedLemmas::help_more))]
 fn help_asked<'a>(name: &'a str, words: &'a [String]) -> Option<Asked<'a>>
     ensures { option_map early_asked result ≡ help_on name.entry.now (map string_bytes words.entry.now) }
 {
-    if words.is_empty() && is_command(name) {
-        Some(Asked::HelpOf(name))
-    } else {
-        None
+    match words {
+        [] => is_command(name).then_some(Asked::HelpOf(name)),
+        _ => None,
     }
 }
 

@@ -3,15 +3,15 @@ ghost use Rattle.tacho_card.specs.declared.fault.CardFault.TheVariants.{Memory};
 ghost use Rattle.tacho_state.specs.Content.{FileTells};
 ghost use Rattle.tacho_desk.specs.Words.{part_of as part_named};
 ghost use Rattle.tacho_cli.specs.Card.{IsCard, IsCardBy, IsListed, no_part_reply};
-ghost use Rattle.tacho_cli.specs.Command.{Finishes, IsWrittenOut};
+ghost use Rattle.tacho_cli.specs.Command.{Finishes, IsWrittenOut, card_reply};
 ghost use Rattle.tacho_cli.specs.Dump.{IsDump, IsDumped, ReadsValue};
-ghost use Rattle.tacho_cli.specs.Holder.{IsHolder, IsHolderText, card_holder, holder_line};
+ghost use Rattle.tacho_cli.specs.Holder.{IsHolder};
 
 use crate::reply::{tell, tell_fault};
-use std::alloc::{AllocError, Global};
+use std::alloc::Global;
 use tacho_card::{CardFault, CardFile, Cyclic, Part, spans, spans_of};
 use tacho_desk::{Fault, part_of};
-use tacho_sheet::{Fault as ToldFault, push_bytes};
+use tacho_sheet::push_bytes;
 use tacho_time::{Sink, Source, read_all, span_lines};
 
 /// The most bytes that an EF Driver_Activity_Data can have.
@@ -75,18 +75,8 @@ pub fn card<R: Source, W: Sink>(alloc: Global, part: &str, reader: &mut R, write
         × IsWrittenOut (W.has_failed writer.new) (W.written writer.old) (W.written writer.new) no_part_reply result }
 {
     let Some(part) = part_of(part.as_bytes()) else {
-        return tell_fault(writer, Fault::Told(ToldFault::Part));
+        return tell_fault(writer, Fault::Part);
     };
-    card_by(alloc, part, reader, writer)
-}
-
-/// Writes the spans of a card file, read by a part.
-fn card_by<R: Source, W: Sink>(alloc: Global, part: Part, reader: &mut R, writer: &mut W) -> u8
-    requires reader { R.has_failed reader.old ≡ false }
-    requires writer { W.has_failed writer.old ≡ false }
-    ensures { Finishes (IsCardBy (Some part)) (R.unread reader.old) (R.has_failed reader.new)
-        (W.has_failed writer.new) (W.written writer.old) (W.written writer.new) result }
-{
     let file = match read_all(alloc, reader, FILE_LIMIT) {
         Ok(file) => file,
         Err(fault) => return tell_fault(writer, Fault::from(fault)),
@@ -109,18 +99,13 @@ fn card_text(alloc: Global, part: Part, bytes: &[u8]) -> Result<Vec<u8>, CardFau
 
 /// The line of a card file's holder.
 fn holder_text(alloc: Global, bytes: &[u8]) -> Result<String, CardFault>
-    ensures { MatchResult result (λ text. IsHolderText bytes.now (string_bytes text)) (λ fault. (card_holder bytes.now ≡ Err fault) ⊎ (fault ≡ Memory)) }
+    requires { length bytes.now ≤ 262144 }
+    ensures { MatchResult result (λ text. IsHolder bytes.now (record { text = string_bytes text; status = 0 }))
+        (λ fault. IsHolder bytes.now (card_reply fault) ⊎ (fault ≡ Memory)) }
 {
     let file = CardFile::read(bytes)?;
-    Ok(line_of_holder(alloc, &file.holder())?)
-}
-
-/// The line of a holder.
-fn line_of_holder(alloc: Global, holder: &[u8]) -> Result<String, AllocError>
-    ensures { IfOk result (λ text. string_bytes text ≡ holder_line holder.now) }
-{
     let mut line = String::new(alloc);
-    push_bytes(&mut line, holder)?;
+    push_bytes(&mut line, &file.holder())?;
     line.push_str("\n")?;
     Ok(line)
 }

@@ -1,24 +1,23 @@
 //! Several card files, imported in order.
 
-ghost use Rattle.std.specs.Prelude.{◌≡◌, ◌⊎◌, ◌++◌, ℕ, List, Result, codes, None, Ok, Err, Some, IfErr, IfOk, OnOk, false, is_err, map, string_bytes, take, vec_items, OnErr};
+ghost use Rattle.std.specs.Prelude.{◌≡◌, ℕ, List, Result, None, Ok, Err, Some, IfErr, IfOk, OnErr, OnOk, false, is_err, map, string_bytes};
+ghost use Rattle.std.specs.Prelude.{take};
 ghost use Rattle.std.specs.Io.KnownBytes.{Appends};
 ghost use Rattle.tacho_card.specs.declared.file.Part.{Part as PartValue};
 ghost use Rattle.tacho_desk.specs.Told.{answer_of};
 ghost use Rattle.tacho_desk.specs.Words.{part_of as part_named};
 ghost use Rattle.tacho_cli.specs.Card.{no_part_reply};
 ghost use Rattle.tacho_cli.specs.Command.{IsWrittenOut};
-ghost use Rattle.tacho_cli.specs.Office.{reply_of_answer};
-ghost use Rattle.tacho_desk.specs.declared.fault.Fault.{Fault as FaultValue};
-ghost use Rattle.tacho_cli.specs.Files.{HasNotBegun, ImportsFiles, IsFileRead, shown_name as name_shown};
+ghost use Rattle.tacho_sheet.specs.declared.fault.Fault.{Fault as FaultValue};
+ghost use Rattle.tacho_cli.specs.Files.{ImportsFiles, IsFileRead, file_answer_line};
 ghost use Rattle.tacho_cli.specs.Tally.{AnswersFile};
 
 use crate::office::input_of;
 use crate::reply::{tell, tell_answer, tell_fault};
 use crate::tally::Tally;
-use std::alloc::{AllocError, Global};
+use std::alloc::Global;
 use tacho_card::Part;
 use tacho_desk::{Fault, Task, Text, carry_out, part_of};
-use tacho_sheet::Fault as ToldFault;
 use tacho_state::{Caller, Keeper};
 use tacho_time::{Failed, Sink, Source, write_all};
 
@@ -58,38 +57,17 @@ pub fn import_files<K: Keeper, F: CardFiles, W: Sink>(
     ensures no_part { part_named part.now ≡ None → (keeper.new ≡ keeper.old)
         × IsWrittenOut (W.has_failed writer.new) (W.written writer.old) (W.written writer.new) no_part_reply result }
     ensures imported { (p : PartValue) → part_named part.now ≡ Some p
-        → HasNotBegun keeper.old keeper.new (W.has_failed writer.new) (W.written writer.old) (W.written writer.new) result
-        ⊎ ImportsFiles (F.gives files.now) K.stands K.is_clean K.leaves keeper.old keeper.new p (map string_bytes names.now)
+        → ImportsFiles (F.gives files.now) K.stands K.is_clean K.leaves keeper.old keeper.new p (map string_bytes names.now)
         (W.has_failed writer.new) (W.written writer.old) (W.written writer.new) result }
 {
     let Some(part) = part_of(part.as_bytes()) else {
-        return tell_fault(writer, Fault::Told(ToldFault::Part));
+        return tell_fault(writer, Fault::Part);
     };
-    let Ok(shown) = shown_names(alloc, names) else {
-        return tell_fault(writer, Fault::Memory);
-    };
-    import_shown(alloc, keeper, part, names, &shown, files, writer)
-}
-
-/// Imports files in order, given the name that is shown for each.
-fn import_shown<K: Keeper, F: CardFiles, W: Sink>(
-    alloc: Global,
-    keeper: &mut K,
-    part: Part,
-    names: &[String],
-    shown: &[Vec<u8>],
-    files: &F,
-    writer: &mut W,
-) -> u8
-    requires { map vec_items shown.now ≡ map name_shown (map string_bytes names.now) }
-    ensures { ImportsFiles (F.gives files.now) K.stands K.is_clean K.leaves keeper.old keeper.new part (map string_bytes names.now)
-        (W.has_failed writer.new) (W.written writer.old) (W.written writer.new) result }
-{
     let mut tally = Tally::new();
-    for (name, shown) in names.iter().zip(shown) {
+    for name in names {
         let answer = answer_to(alloc, keeper, part, name, files);
         tally.count(&answer);
-        let Ok(()) = tell_line(writer, shown, answer) else {
+        let Ok(()) = tell_line(writer, name.as_bytes(), &answer) else {
             return 3;
         };
         if tally.ended {
@@ -116,40 +94,24 @@ fn answer_to<K: Keeper, F: CardFiles>(
     }
 }
 
-/// Writes the line of a file: its name, and the line of the answer.
+/// Writes the line of a file: its name, and the line of the answer. In the name it writes a question mark for each control character, so
+/// that the name stays in its line.
 fn tell_line<W: Sink>(
     writer: &mut W,
-    shown: &[u8],
-    answer: Result<Text, Fault>,
+    name: &[u8],
+    answer: &Result<Text, Fault>,
 ) -> Result<(), Failed>
     ensures all { OnOk result (Appends (W.written writer.old) (W.written writer.new)
-        (shown.now ++ (codes ": " ++ (reply_of_answer (answer_of answer)).text))) }
+        (file_answer_line (record { name = name.now; answer = answer_of answer.now }))) }
     ensures beginning { OnErr result ((n : ℕ) × Appends (W.written writer.old) (W.written writer.new)
-        (take n (shown.now ++ (codes ": " ++ (reply_of_answer (answer_of answer)).text)))) }
+        (take n (file_answer_line (record { name = name.now; answer = answer_of answer.now })))) }
     ensures failed { W.has_failed writer.new ≡ is_err result }
 {
-    write_all(writer, shown)?;
-    write_all(writer, b": ")?;
-    tell_answer(writer, &answer);
-    if writer.failed() { Err(Failed) } else { Ok(()) }
-}
-
-/// The names of files as they are shown.
-fn shown_names(alloc: Global, names: &[String]) -> Result<Vec<Vec<u8>>, AllocError>
-    ensures { IfOk result (λ shown. map vec_items shown.items ≡ map name_shown (map string_bytes names.now)) }
-{
-    let mut shown = Vec::new(alloc);
-    for name in names {
-        shown.push(shown_name(alloc, name)?)?;
+    for &byte in name {
+        let shown = if byte.is_ascii_control() { b'?' } else { byte };
+        write_all(writer, &[shown])?;
     }
-    Ok(shown)
-}
-
-/// The name of a file as it is shown: with a question mark for each control character, so that it stays in its line.
-fn shown_name(alloc: Global, name: &str) -> Result<Vec<u8>, AllocError>
-    ensures { IfOk result (λ shown. shown.items ≡ name_shown name.now) }
-{
-    name.bytes()
-        .map(|byte| if byte.is_ascii_control() { b'?' } else { byte })
-        .collect(alloc)
+    write_all(writer, b": ")?;
+    tell_answer(writer, answer);
+    if writer.failed() { Err(Failed) } else { Ok(()) }
 }

@@ -1,9 +1,13 @@
 //! How the program and its commands are used. No contract is on these texts; the tests show them.
 
+ghost use Rattle.std.specs.Prelude.{◌≡◌, option_map};
+ghost use Rattle.tacho_desk.specs.Commands.{all_commands};
+ghost use Rattle.tacho_cli.specs.Words.{act_named};
+
 use clap::Error;
 use clap::error::ErrorKind;
 use std::alloc::{AllocError, Global};
-use tacho_desk::{Act, Command as Row, Want, command_table};
+use tacho_desk::{Act, Argument, Command as Row, Want, command_table};
 
 /// The commands, one per line.
 pub fn help_text(alloc: Global) -> Result<String, AllocError> {
@@ -27,15 +31,16 @@ pub fn help_of(alloc: Global, name: &str) -> Result<String, AllocError> {
     if let Some(row) = row_named(name) {
         write!(text, "{}\n\nUsage: ", row.about)?;
         push_usage(&mut text, row)?;
-        for (place, word) in row.words.iter().enumerate() {
+        for (place, argument) in row.arguments.iter().enumerate() {
             text.push_str(if place == 0 { "\nArguments:\n" } else { "" })?;
-            write!(text, "  {:8}  {}\n", word, meaning_of(word))?;
+            write!(text, "  {:8}  {}\n", argument.name(), meaning_of(*argument))?;
         }
     }
     Ok(text)
 }
 
-/// What the parser says is wrong with these arguments, and the usage.
+/// What the parser says is wrong with these arguments, and the usage. After an unknown argument, also how a file is given to a command that
+/// reads its input.
 pub(crate) fn error_text(
     alloc: Global,
     error: &Error,
@@ -47,69 +52,47 @@ pub(crate) fn error_text(
     let whole = error.to_string(alloc)?;
     let mut text = usage_text(alloc, cause_in(&whole), words)?;
     if matches!(error.kind(), ErrorKind::UnknownArgument) {
-        push_hint(&mut text, words)?;
+        if let Some(input) = row_in(words).and_then(|row| input_of(row.act)) {
+            write!(
+                text,
+                "       {input} is read from standard input: put < before the name of a file\n"
+            )?;
+        }
     }
     Ok(text)
 }
 
-/// The cause in the text of an error of the parser: what follows `error: `, without the usage after it.
+/// The cause in the text of an error of the parser: what follows `error: `, as far as the first empty line, without the usage after it.
 fn cause_in(text: &str) -> &str {
-    let first = first_part(text);
+    let first = text.split_once("\n\n").map_or(text, |parts| parts.0);
     first.strip_prefix("error: ").unwrap_or(first)
 }
 
-/// A text as far as its first empty line.
-fn first_part(text: &str) -> &str {
-    match text.split_once("\n\n") {
-        Some((first, _)) => first,
-        None => text,
-    }
-}
-
-/// What is wrong with these arguments, in one line, and the usage.
+/// What is wrong with these arguments, in one line, and the usage of their command, or of the program if there is none.
 pub fn usage_text(alloc: Global, cause: &str, words: &[String]) -> Result<String, AllocError> {
     let mut text = String::from_str(alloc, "tacho:")?;
     for part in cause.lines() {
         write!(text, " {}", part.trim_ascii())?;
     }
-    text.push_str("\n")?;
-    push_usage_of(&mut text, name_in(words))?;
+    text.push_str("\nusage: ")?;
+    match row_in(words) {
+        Some(row) => push_usage(&mut text, row)?,
+        None => text.push_str(
+            "tacho COMMAND [ARGUMENT...]\n       tacho help lists the commands\n",
+        )?,
+    }
     Ok(text)
 }
 
-/// The name of the command in these arguments.
-fn name_in(words: &[String]) -> &str {
-    match words {
-        [_, name, ..] => name,
-        _ => "",
-    }
-}
-
-/// Says how a file is given to a command that reads its input.
-fn push_hint(text: &mut String, words: &[String]) -> Result<(), AllocError> {
-    let input = row_named(name_in(words)).and_then(|row| input_of(row.act));
-    match input {
-        Some(input) => write!(
-            text,
-            "       {input} is read from standard input: put < before the name of a file\n"
-        ),
-        None => Ok(()),
-    }
-}
-
-/// The usage of the command with a name, or of the program if no command has it.
-fn push_usage_of(text: &mut String, name: &str) -> Result<(), AllocError> {
-    text.push_str("usage: ")?;
-    match row_named(name) {
-        Some(row) => push_usage(text, row),
-        None => {
-            text.push_str("tacho COMMAND [ARGUMENT...]\n       tacho help lists the commands\n")
-        }
-    }
+/// The command that these arguments name.
+fn row_in(words: &[String]) -> Option<&'static Row> {
+    row_named(words.get(1)?)
 }
 
 /// The command with a name.
-fn row_named(name: &str) -> Option<&'static Row> {
+pub(crate) fn row_named(name: &str) -> Option<&'static Row>
+    ensures { option_map (λ row. row.act) (option_map (λ row. row.now) result) ≡ act_named name.now all_commands }
+{
     command_table().iter().find(|row| row.name == name)
 }
 
@@ -131,8 +114,8 @@ fn push_usage(text: &mut String, row: &Row) -> Result<(), AllocError> {
 /// A command, and the names of its arguments.
 fn push_words(text: &mut String, row: &Row) -> Result<(), AllocError> {
     write!(text, "tacho {}", row.name)?;
-    for word in row.words {
-        write!(text, " {word}")?;
+    for argument in row.arguments {
+        write!(text, " {}", argument.name())?;
     }
     Ok(())
 }
@@ -148,20 +131,20 @@ pub(crate) fn input_of(act: Act) -> Option<&'static str> {
 }
 
 /// The description of an argument for the user.
-fn meaning_of(word: &str) -> &'static str {
-    match word {
-        "ARCHIVE" => "The path of the archive",
-        "DRIVER" | "[DRIVER]" => "The driver's number, 1 to 999999",
-        "PART" => {
+fn meaning_of(argument: Argument) -> &'static str {
+    match argument {
+        Argument::Archive => "The path of the archive",
+        Argument::Driver | Argument::AnyDriver => "The driver's number, 1 to 999999",
+        Argument::Part => {
             "The blocks of the card file that are read: first (first generation), second (second generation), or both"
         }
-        "NUMBER" => {
+        Argument::Number => {
             "The number of the entry or the card file, as it was printed when it was added"
         }
-        "DATE" => "A Monday, as 2024-03-04",
-        "MONTH" => "A month, as 2024-03",
-        "KEY" => "The office's key: 8 to 64 letters, digits and hyphens",
-        "PORT" => "The port on 127.0.0.1, 1 to 65535",
-        _ => "The number of connections to answer, 1 to 1000000",
+        Argument::Date => "A Monday, as 2024-03-04",
+        Argument::Month => "A month, as 2024-03",
+        Argument::Key => "The office's key: 8 to 64 letters, digits and hyphens",
+        Argument::Port => "The port on 127.0.0.1, 1 to 65535",
+        Argument::Count => "The number of connections to answer, 1 to 1000000",
     }
 }

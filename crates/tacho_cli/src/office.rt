@@ -1,6 +1,6 @@
 ghost use Rattle.std.specs.Prelude.{◌≡◌, Err, false, true, MatchResult};
 ghost use Rattle.tacho_desk.specs.Words.{IsTask};
-ghost use Rattle.tacho_desk.specs.declared.fault.Fault.{Fault as FaultValue};
+ghost use Rattle.tacho_sheet.specs.declared.fault.Fault.{Fault as FaultValue};
 ghost use Rattle.tacho_desk.specs.Told.{answer_of};
 ghost use Rattle.tacho_desk.specs.Wants.{takes_input as has_text};
 ghost use Rattle.tacho_cli.specs.Office.{HasNotRead, HasRead, OfDesk, Performed, Replied};
@@ -9,7 +9,7 @@ ghost use Rattle.tacho_cli.specs.Words.{at_desk, has_input};
 use crate::job::{DeskJob, Job};
 use crate::reply::tell_answer;
 use std::alloc::Global;
-use tacho_desk::{Fault, Text, Want, carry_out, task_of};
+use tacho_desk::{Fault, Text, carry_out, task_of};
 use tacho_state::{Caller, Keeper};
 use tacho_time::{Sink, Source, read_all};
 
@@ -42,8 +42,7 @@ pub fn perform_at_desk<K: Keeper, R: Source, W: Sink>(
     ensures words { (fault : FaultValue) → IsTask job.entry.want Caller.Office job.entry.driver.now job.entry.word.now (Err fault)
         → reader.new ≡ reader.old }
 {
-    let answer = answer_at_desk(alloc, job, keeper, reader);
-    tell_answer(writer, &answer)
+    tell_answer(writer, &answer_at_desk(alloc, job, keeper, reader))
 }
 
 /// Does a job at an archive, as `perform_at_desk` does. The job has to be one for which `Job::at_desk` is true.
@@ -85,26 +84,9 @@ pub fn answer_at_desk<K: Keeper, R: Source>(
     ensures words { (fault : FaultValue) → IsTask job.entry.want Caller.Office job.entry.driver.now job.entry.word.now (Err fault)
         → reader.new ≡ reader.old }
 {
-    job_answer(alloc, job.want, job.driver, job.word, keeper, reader)
-}
-
-/// Answers a job at the office's archive, with the texts of its arguments.
-fn job_answer<K: Keeper, R: Source>(
-    alloc: Global,
-    want: Want,
-    driver: &str,
-    word: &str,
-    keeper: &mut K,
-    reader: &mut R,
-) -> Result<Text, Fault>
-    requires reader { R.has_failed reader.old ≡ false }
-    ensures performed { Performed K.stands K.is_clean K.is_live K.leaves K.is_same keeper.old keeper.new want driver.now word.now
-        (R.unread reader.old) (R.has_failed reader.new) (answer_of result) }
-    ensures alone { has_text want ≡ false → reader.new ≡ reader.old }
-    ensures words { (fault : FaultValue) → IsTask want Caller.Office driver.now word.now (Err fault) → reader.new ≡ reader.old }
-{
-    let task = task_of(want, Caller::Office, driver.as_bytes(), word.as_bytes())?;
-    if !want.takes_input() {
+    let (driver, word) = (job.driver.as_bytes(), job.word.as_bytes());
+    let task = task_of(job.want, Caller::Office, driver, word)?;
+    if !job.want.takes_input() {
         return carry_out(alloc, keeper, task, &[]);
     }
     let input = input_of(alloc, reader)?;
@@ -116,8 +98,5 @@ pub(crate) fn input_of<R: Source>(alloc: Global, reader: &mut R) -> Result<Vec<u
     ensures { MatchResult result (λ input. HasRead (R.unread reader.old) (R.has_failed reader.new) input.items)
         (λ fault. HasNotRead (R.unread reader.old) (R.has_failed reader.new) fault) }
 {
-    match read_all(alloc, reader, INPUT_LIMIT) {
-        Ok(input) => Ok(input),
-        Err(fault) => Err(Fault::from(fault)),
-    }
+    Ok(read_all(alloc, reader, INPUT_LIMIT)?)
 }

@@ -1,12 +1,11 @@
 ghost use Rattle.std.specs.Prelude.{◌≡◌};
 ghost use Rattle.tacho_desk.specs.Told.{answer_of};
 ghost use Rattle.tacho_cli.specs.Command.{IsWrittenOut, failure_reply};
-ghost use Rattle.tacho_cli.specs.Fault.{told_status};
+ghost use Rattle.tacho_cli.specs.Fault.{exit_status};
 ghost use Rattle.tacho_cli.specs.Office.{reply_of_answer};
 
-use tacho_card::CardFault;
 use tacho_desk::{Fault, Text};
-use tacho_sheet::{Fault as ToldFault, SheetFault, fault_line};
+use tacho_sheet::fault_line;
 use tacho_state::StoreFault;
 use tacho_time::{Sink, write_all};
 
@@ -24,11 +23,7 @@ pub(crate) fn tell<W: Sink>(writer: &mut W, text: &[u8], status: u8) -> u8
 pub(crate) fn tell_fault<W: Sink>(writer: &mut W, fault: Fault) -> u8
     ensures { IsWrittenOut (W.has_failed writer.new) (W.written writer.old) (W.written writer.new) (failure_reply fault) result }
 {
-    match fault {
-        Fault::Told(told) => tell(writer, fault_line(told).as_bytes(), status_of(&told)),
-        Fault::Device => tell(writer, b"X2 device failed\n", 3),
-        Fault::Memory => tell(writer, b"M1 no memory\n", 3),
-    }
+    tell(writer, fault_line(fault).as_bytes(), status_of(&fault))
 }
 
 /// Writes the text of an answer or the line of its fault, and returns the status, or 3 if the writer failed. Allocates no memory.
@@ -41,16 +36,12 @@ pub fn tell_answer<W: Sink>(writer: &mut W, answer: &Result<Text, Fault>) -> u8
     }
 }
 
-/// The program's status after a refusal: 3 if memory ran out or the store failed, otherwise 1.
-fn status_of(fault: &ToldFault) -> u8
-    ensures { result ≡ told_status fault.now }
+/// The program's status after a fault: 3 if memory ran out, the store failed or a device failed, otherwise 1.
+fn status_of(fault: &Fault) -> u8
+    ensures { result ≡ exit_status fault.now }
 {
     match fault {
-        ToldFault::Card(CardFault::Memory) => 3,
-        ToldFault::Store(StoreFault::Store) => 3,
-        ToldFault::Store(StoreFault::Memory) => 3,
-        ToldFault::Store(StoreFault::Card(CardFault::Memory)) => 3,
-        ToldFault::Sheet(SheetFault::Memory) => 3,
+        Fault::Memory | Fault::Device | Fault::Store(StoreFault::Store) => 3,
         _ => 1,
     }
 }

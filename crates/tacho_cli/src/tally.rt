@@ -6,7 +6,6 @@ ghost use Rattle.tacho_cli.specs.Tally.{IsTally};
 use arrayvec::ArrayString;
 use itoa::Buffer;
 use tacho_desk::{Fault, Text};
-use tacho_sheet::Fault as ToldFault;
 use tacho_state::StoreFault;
 
 /// The line of a tally. Allocates no memory.
@@ -74,12 +73,10 @@ impl Tally {
     pub(crate) fn status(&self) -> u8
         ensures { (files : List FileAnswer) → IsTally self.now files → result ≡ import_status files }
     {
-        if self.ended {
-            3
-        } else if self.refused > 0 {
-            1
-        } else {
-            0
+        match (self.ended, self.refused) {
+            (true, _) => 3,
+            (false, 0) => 0,
+            _ => 1,
         }
     }
 }
@@ -90,7 +87,7 @@ fn is_end(fault: &Fault) -> bool
 {
     match fault {
         Fault::Memory => true,
-        Fault::Told(ToldFault::Store(StoreFault::Store)) => true,
+        Fault::Store(StoreFault::Store) => true,
         _ => false,
     }
 }

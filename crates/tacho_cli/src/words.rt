@@ -1,16 +1,16 @@
-ghost use Rattle.std.specs.Prelude.{◌≡◌, [], IfOk, IfErr, codes, false, map, option_map, string_bytes};
+ghost use Rattle.std.specs.Prelude.{◌≡◌, [], IfOk, IfErr, Some, codes, false, map, option_map, string_bytes};
 ghost use Rattle.clap.specs.Words.{app_of, fault_of, first_of, found_of, kind_of, new_app, rows_of, rule_of, subcommand_of, takes};
 ghost use Rattle.clap.specs.declared.builder.command.Command.TheViews.{out-Command as fields_of};
-ghost use Rattle.tacho_desk.specs.Commands.{all_commands, row_of};
-ghost use Rattle.tacho_cli.specs.Words.{act_named, needs_subcommand, or_empty, other_text, tacho_app, with_table, with_words, word_rule};
+ghost use Rattle.tacho_desk.specs.Commands.{all_commands, name_of, row_of};
+ghost use Rattle.tacho_cli.specs.Words.{act_named, needs_subcommand, other_text, tacho_app, with_table, with_words, word_rule};
 ghost use Rattle.tacho_cli.specs.Words.{IsActUsage, IsJob, IsJobOf, IsNumbered, IsPortUsage, IsRefusal, IsUsage};
 
-use crate::help::error_text;
+use crate::help::{error_text, row_named};
 use crate::job::{DeskJob, Job};
 use clap::error::ErrorKind;
 use clap::{Arg, ArgMatches, Command, Error};
 use std::alloc::{AllocError, Global};
-use tacho_desk::{Act, Command as Row, Want, command_table};
+use tacho_desk::{Act, Argument, Command as Row, Want, command_table};
 use tacho_sheet::read_number;
 
 /// Why a command line names no job.
@@ -51,13 +51,14 @@ fn word<'a>(alloc: Global, id: &'a str) -> Arg<'a>
 }
 
 /// A command with its arguments.
-fn leaf<'a>(alloc: Global, name: &'a str, ids: &[&'a str]) -> Result<Command<'a>, AllocError>
-    ensures app { IfOk result (λ c. app_of c ≡ with_words (new_app name.entry.now) (map (λ s. s.now) ids.now)) }
+fn leaf<'a>(alloc: Global, name: &'a str, arguments: &[Argument]) -> Result<Command<'a>, AllocError>
+    ensures app { IfOk result (λ c. app_of c ≡ with_words (new_app name.entry.now) (map name_of arguments.now)) }
     ensures local { IfOk result (λ c. (fields_of c).has_globals ≡ false) }
 {
     let mut command = Command::new(alloc, name);
-    for id in ids {
-        command = command.arg(word(alloc, *id))?;
+    for argument in arguments {
+        let id: &'a str = argument.name();
+        command = command.arg(word(alloc, id))?;
     }
     Ok(command)
 }
@@ -69,7 +70,7 @@ fn command_of<'a>(alloc: Global, table: &[Row]) -> Result<Command<'a>, AllocErro
 {
     let mut command = Command::new(alloc, "tacho").subcommand_required(true);
     for row in table {
-        let leaf = leaf(alloc, row.name, row.words)?;
+        let leaf = leaf(alloc, row.name, row.arguments)?;
         command = command.subcommand(leaf)?;
     }
     Ok(command)
@@ -82,23 +83,11 @@ fn tacho<'a>(alloc: Global) -> Result<Command<'a>, AllocError>
     command_of(alloc, command_table())
 }
 
-/// What the subcommand with a name does, according to a table.
-fn act_in(table: &[Row], name: &str) -> Option<Act>
-    ensures { result ≡ act_named name.now (map row_of table.now) }
-{
-    for row in table {
-        if row.name == name {
-            return Some(row.act);
-        }
-    }
-    None
-}
-
 /// What the subcommand with a name does.
 pub(crate) fn act_of(name: &str) -> Option<Act>
     ensures { result ≡ act_named name.now all_commands }
 {
-    act_in(command_table(), name)
+    row_named(name).map(|row| row.act)
 }
 
 /// The text of an argument, if there is one.
@@ -108,14 +97,12 @@ fn text_of<'a>(words: &ArgMatches<'a>, id: &str) -> Option<&'a str>
     words.get_str(id)
 }
 
-/// A text, or an empty text if there is none.
-fn text_or_empty<'a>(text: Option<&'a str>) -> &'a str
-    ensures { result.now ≡ or_empty (option_map (λ text. text.now) text.entry) }
+/// The text of an argument that the parser requires.
+fn required<'a>(words: &ArgMatches<'a>, id: &str) -> Result<&'a str, Usage>
+    ensures text { IfOk result (λ text. first_of id.now (rows_of (found_of words.now)) ≡ Some text.now) }
+    ensures usage { IfErr result (λ usage. usage ≡ Usage.Parser) }
 {
-    match text {
-        Some(text) => text,
-        None => "",
-    }
+    text_of(words, id).ok_or(Usage::Parser)
 }
 
 /// The argument other than the archive and the driver: a part, a number, a date or a month. An empty text if there is none.
@@ -124,98 +111,51 @@ fn other_of<'a>(words: &ArgMatches<'a>) -> &'a str
 {
     let number = text_of(words, "PART").or(text_of(words, "NUMBER"));
     let time = text_of(words, "DATE").or(text_of(words, "MONTH"));
-    text_or_empty(number.or(time))
+    number.or(time).unwrap_or("")
 }
 
-/// Makes the job of a subcommand from its arguments.
+/// Makes the job of a subcommand from its arguments. Fails with `Usage::Numbers` if the port or the count isn't a valid number.
 fn job_of<'a>(act: Act, words: &ArgMatches<'a>) -> Result<Job<'a>, Usage>
     ensures job { IfOk result (IsJobOf act (rows_of (found_of words.now))) }
     ensures usage { IfErr result (IsActUsage act (rows_of (found_of words.now))) }
 {
+    let archive = required(words, "ARCHIVE");
+    let part = required(words, "PART");
     match act {
         Act::Dump => Ok(Job::Dump),
         Act::Holder => Ok(Job::Holder),
-        Act::Card => match text_of(words, "PART") {
-            Some(part) => Ok(Job::Card { part }),
-            None => Err(Usage::Parser),
-        },
-        Act::Init => match text_of(words, "ARCHIVE") {
-            Some(archive) => Ok(Job::Init { archive }),
-            None => Err(Usage::Parser),
-        },
-        Act::Migrate => match text_of(words, "ARCHIVE") {
-            Some(archive) => Ok(Job::Migrate { archive }),
-            None => Err(Usage::Parser),
-        },
-        Act::Check => match text_of(words, "ARCHIVE") {
-            Some(archive) => Ok(Job::Check { archive }),
-            None => Err(Usage::Parser),
-        },
-        Act::AtDesk(want) => desk_of(want, words),
-        Act::Serve => serve_of(words),
-        Act::Listen => listen_of(words),
+        Act::Card => Ok(Job::Card { part: part? }),
+        Act::Init => Ok(Job::Init { archive: archive? }),
+        Act::Migrate => Ok(Job::Migrate { archive: archive? }),
+        Act::Check => Ok(Job::Check { archive: archive? }),
+        Act::AtDesk(want) => {
+            let driver = text_of(words, "DRIVER").or(text_of(words, "[DRIVER]"));
+            Ok(Job::AtDesk(DeskJob {
+                archive: archive?,
+                want,
+                driver: driver.unwrap_or(""),
+                word: other_of(words),
+            }))
+        }
+        Act::Serve => {
+            let (port, count) = port_and_count(words)?;
+            Ok(Job::Serve {
+                archive: archive?,
+                key: required(words, "KEY")?,
+                port,
+                count,
+            })
+        }
+        Act::Listen => {
+            let (port, count) = port_and_count(words)?;
+            Ok(Job::Listen {
+                archive: archive?,
+                port,
+                count,
+            })
+        }
         Act::Version => Ok(Job::Version),
     }
-}
-
-/// Makes the job at an archive from its arguments.
-fn desk_of<'a>(want: Want, words: &ArgMatches<'a>) -> Result<Job<'a>, Usage>
-    ensures job { IfOk result (IsJobOf (Act.AtDesk want) (rows_of (found_of words.now))) }
-    ensures usage { IfErr result (λ usage. usage ≡ Usage.Parser) }
-{
-    let Some(archive) = text_of(words, "ARCHIVE") else {
-        return Err(Usage::Parser);
-    };
-    let driver = text_of(words, "DRIVER").or(text_of(words, "[DRIVER]"));
-    let driver = text_or_empty(driver);
-    let word = other_of(words);
-    Ok(Job::AtDesk(DeskJob {
-        archive,
-        want,
-        driver,
-        word,
-    }))
-}
-
-/// Makes the job of `serve` from its arguments. Fails with `Usage::Numbers` if the port or the count isn't a valid number.
-#[tactic(auto, using(crate::proofs::WordsLemmas::port_usage))]
-fn serve_of<'a>(words: &ArgMatches<'a>) -> Result<Job<'a>, Usage>
-    ensures job { IfOk result (IsJobOf Act.Serve (rows_of (found_of words.now))) }
-    ensures usage { IfErr result (IsActUsage Act.Serve (rows_of (found_of words.now))) }
-{
-    let (Some(archive), Some(key)) = (text_of(words, "ARCHIVE"), text_of(words, "KEY")) else {
-        return Err(Usage::Parser);
-    };
-    let (port, count) = match port_and_count(words) {
-        Ok(numbers) => numbers,
-        Err(usage) => return Err(usage),
-    };
-    Ok(Job::Serve {
-        archive,
-        key,
-        port,
-        count,
-    })
-}
-
-/// Makes the job of `listen` from its arguments. Fails with `Usage::Numbers` if the port or the count isn't a valid number.
-#[tactic(auto, using(crate::proofs::WordsLemmas::port_usage))]
-fn listen_of<'a>(words: &ArgMatches<'a>) -> Result<Job<'a>, Usage>
-    ensures job { IfOk result (IsJobOf Act.Listen (rows_of (found_of words.now))) }
-    ensures usage { IfErr result (IsActUsage Act.Listen (rows_of (found_of words.now))) }
-{
-    let Some(archive) = text_of(words, "ARCHIVE") else {
-        return Err(Usage::Parser);
-    };
-    let (port, count) = match port_and_count(words) {
-        Ok(numbers) => numbers,
-        Err(usage) => return Err(usage),
-    };
-    Ok(Job::Listen {
-        archive,
-        port,
-        count,
-    })
 }
 
 /// Reads the port, 1 to 65535, and the count, 1 to 1,000,000. Fails with `Usage::Numbers` if one of them isn't a valid number.
@@ -224,15 +164,10 @@ fn port_and_count(words: &ArgMatches<'_>) -> Result<(u16, u32), Usage>
         × IsNumbered (rows_of (found_of words.now)) (codes "COUNT") 1000000 n.1) }
     ensures usage { IfErr result (IsPortUsage (rows_of (found_of words.now))) }
 {
-    let (Some(port), Some(count)) = (text_of(words, "PORT"), text_of(words, "COUNT")) else {
-        return Err(Usage::Parser);
-    };
-    let Some(port) = read_number(port.as_bytes(), LAST_PORT) else {
-        return Err(Usage::Numbers);
-    };
-    let Some(count) = read_number(count.as_bytes(), LAST_COUNT) else {
-        return Err(Usage::Numbers);
-    };
+    let port = required(words, "PORT")?;
+    let port = read_number(port.as_bytes(), LAST_PORT).ok_or(Usage::Numbers)?;
+    let count = required(words, "COUNT")?;
+    let count = read_number(count.as_bytes(), LAST_COUNT).ok_or(Usage::Numbers)?;
     Ok((port as u16, count))
 }
 

@@ -7,5 +7,5 @@ use Rattle.tacho_cli.proofs.words.command_of.Given as goal
 
 abbrev pub invariant-loop-row : goal.invariant-loop-row
 invariant-loop-row l =
-    with_table (app_of l.command) (drop l.row-index (map row_of l.table))
+    with_table (app_of l.command) (map row_of (drop l.row-index l.table))
     ≡ with_table (needs_subcommand (new_app (codes "tacho"))) (map row_of l.table)
