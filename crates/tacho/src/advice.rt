@@ -1,7 +1,6 @@
 //! What a person may do after a fault.
 
 use tacho_desk::Fault;
-use tacho_sheet::Fault as ToldFault;
 use tacho_state::StoreFault;
 
 /// The sentence if memory ran out.
@@ -21,25 +20,17 @@ pub const LOST: &str =
 /// The sentence for a fault. docs/FORMATS.md lists them, 'All lines of faults'.
 pub fn advice_on(fault: Fault) -> &'static str {
     match fault {
-        Fault::Told(ToldFault::Store(fault)) => advice_on_store(fault),
-        Fault::Told(told) => advice_on_told(told),
-        Fault::Device => "standard input can't be read, or standard output can't be written",
-        Fault::Memory => NO_MEMORY,
-    }
-}
-
-/// The sentence for a fault of an argument or an input.
-fn advice_on_told(fault: ToldFault) -> &'static str {
-    match fault {
-        ToldFault::Time(_) => "dates are written as 2024-03-04, months as 2024-03",
-        ToldFault::Number => {
+        Fault::Time(_) => "dates are written as 2024-03-04, months as 2024-03",
+        Fault::Card(_) => NO_CARD,
+        Fault::Store(fault) => advice_on_store(fault),
+        Fault::Sheet(_) => "nothing of this input was taken: correct it and give it again",
+        Fault::Number => {
             "numbers are written without leading zeros; tacho drivers, entries and files list them"
         }
-        ToldFault::Part => "PART is both, first or second",
-        ToldFault::TooLarge => "a card file or a text has at most 262144 bytes",
-        ToldFault::Card(_) => NO_CARD,
-        ToldFault::Sheet(_) => "nothing of this input was taken: correct it and give it again",
-        ToldFault::Store(_) => NO_MEMORY,
+        Fault::Part => "PART is both, first or second",
+        Fault::TooLarge => "a card file or a text has at most 262144 bytes",
+        Fault::Device => "standard input can't be read, or standard output can't be written",
+        Fault::Memory => NO_MEMORY,
     }
 }
 

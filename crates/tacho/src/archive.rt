@@ -15,7 +15,6 @@ use tacho_cli::{CardFiles, DeskJob, answer_at_desk, import_files, read_file, tel
 use tacho_desk::{Fault, part_of};
 use tacho_disk::{NotOwned, Watched, cause_of, make_own};
 use tacho_serve::{Place, ServeFault, serve};
-use tacho_sheet::Fault as ToldFault;
 use tacho_state::StoreFault;
 use tacho_store::Archive;
 use tacho_time::Device;
@@ -43,66 +42,41 @@ pub enum Work<'a> {
     Serve { key: &'a str, port: u16, count: u32 },
 }
 
-/// For what a person gets a sentence.
+/// How a job ends. A line is printed once the file is closed.
 #[derive(Clone, Copy)]
-enum Cause {
-    /// Nothing failed.
-    None,
-    Fault(Fault),
+enum Ending {
+    /// The job was done. The line is still to be printed.
+    Done(&'static str),
+    /// What the job answered was printed, with this status. The fault, if there was one, was printed too.
+    Told(u8, Option<Fault>),
+    /// The job was refused. The line of the fault is still to be printed.
+    Refused(Fault),
     /// A server can't have its port, or no connections there.
-    Port,
+    NoPort,
     /// The store failed under a server, or the paths of its files no longer find them.
     Lost,
 }
 
-/// How a job ends: the line to print once the file is closed (empty if the job has printed everything), the status, and why.
-#[derive(Clone, Copy)]
-struct Ending {
-    line: &'static str,
-    status: u8,
-    cause: Cause,
-}
-
-/// An ending with nothing further to print.
-fn with_status(status: u8) -> Ending {
-    Ending {
-        line: "",
-        status,
-        cause: Cause::None,
-    }
-}
-
-/// An ending without a fault.
-fn done(line: &'static str) -> Ending {
-    Ending {
-        line,
-        ..with_status(0)
-    }
-}
-
-/// The ending of a job if the archive has an old schema, the store failed, or memory ran out.
+/// The ending of a job that the archive refused, or if the store failed or memory ran out.
 fn refused(fault: StoreFault) -> Ending {
-    let (line, status) = match fault {
-        StoreFault::OldSchema => ("S13 old archive\n", 1),
-        StoreFault::Memory => ("M1 no memory\n", 3),
-        _ => ("S12 store failed\n", 3),
-    };
-    Ending {
-        line,
-        status,
-        cause: Cause::Fault(Fault::from(fault)),
-    }
+    Ending::Refused(Fault::from(fault))
 }
 
-/// Prints the line of an ending, and returns its status, or 3 if the line can't be written.
-fn tell(rt: &impl Print, line: &str, status: u8) -> u8 {
-    if line.is_empty() {
-        return status;
-    }
-    match print!(rt; "{line}") {
-        Ok(()) => status,
-        Err(_) => 3,
-    }
+/// Prints what is still to be printed of an ending, and returns the program's status: 3 if it can't be written.
+fn tell(rt: &HostRuntime, ending: &Ending) -> u8 {
+    let fault = match ending {
+        Ending::Done(line) => {
+            return match print!(rt; "{line}") {
+                Ok(()) => 0,
+                Err(_) => 3,
+            };
+        }
+        Ending::Told(status, _) => return *status,
+        Ending::Refused(fault) => *fault,
+        Ending::NoPort => Fault::Device,
+        Ending::Lost => Fault::from(StoreFault::Store),
+    };
+    tell_answer(&mut Device::new(rt.stdout()), &Err(fault))
 }
 
 /// `tacho init`: makes an archive without drivers.
@@ -110,7 +84,7 @@ fn create_archive<S: Alter + Drop>(conn: Connection<S>) -> (Ending, Connection<S
     requires { conn.in_transaction ≡ false }
 {
     match Archive::create(conn) {
-        Ok(archive) => (done("created\n"), archive.close()),
+        Ok(archive) => (Ending::Done("created\n"), archive.close()),
         Err(refusal) => (refused(refusal.0), refusal.1),
     }
 }
@@ -120,7 +94,7 @@ fn migrate_archive<S: Alter + Drop>(conn: Connection<S>) -> (Ending, Connection<
     requires { conn.in_transaction ≡ false }
 {
     match Archive::migrate(conn) {
-        Ok(archive) => (done("migrated\n"), archive.close()),
+        Ok(archive) => (Ending::Done("migrated\n"), archive.close()),
         Err(refusal) => (refused(refusal.0), refusal.1),
     }
 }
@@ -156,8 +130,8 @@ fn tell_found(rt: &HostRuntime, found: Option<Unsound>) -> Ending {
         return refused(StoreFault::Memory);
     };
     match print!(rt; "{}", text.as_str()) {
-        Ok(()) => with_status(u8::from(found.is_some())),
-        Err(_) => with_status(3),
+        Ok(()) => Ending::Told(u8::from(found.is_some()), None),
+        Err(_) => Ending::Told(3, None),
     }
 }
 
@@ -176,15 +150,8 @@ fn do_task<S: Alter + Drop>(
     let mut reader = Device::new(rt.stdin());
     let mut writer = Device::new(rt.stdout());
     let answer = answer_at_desk(rt.alloc(), job, &mut archive, &mut reader);
-    let ending = Ending {
-        line: "",
-        status: tell_answer(&mut writer, &answer),
-        cause: match answer.err() {
-            Some(fault) => Cause::Fault(fault),
-            None => Cause::None,
-        },
-    };
-    (ending, archive.close())
+    let status = tell_answer(&mut writer, &answer);
+    (Ending::Told(status, answer.err()), archive.close())
 }
 
 /// The card files of the file system.
@@ -220,15 +187,11 @@ fn import_all<S: Alter + Drop>(
     let cards = Cards { rt };
     let mut writer = Device::new(rt.stdout());
     let status = import_files(rt.alloc(), &mut archive, part, names, &cards, &mut writer);
-    let ending = Ending {
-        line: "",
-        status,
-        cause: match part_of(part.as_bytes()) {
-            Some(_) => Cause::None,
-            None => Cause::Fault(Fault::Told(ToldFault::Part)),
-        },
+    let fault = match part_of(part.as_bytes()) {
+        Some(_) => None,
+        None => Some(Fault::Part),
     };
-    (ending, archive.close())
+    (Ending::Told(status, fault), archive.close())
 }
 
 /// The files of an open archive.
@@ -260,16 +223,9 @@ fn serve_requests<S: Alter + Drop>(
         return (refused(StoreFault::Memory), archive.close());
     };
     let ending = match serve(rt, &mut archive, &mut Files(files), key, port, count) {
-        Ok(()) => with_status(0),
-        Err(ServeFault::Device) => Ending {
-            line: "X2 device failed\n",
-            status: 3,
-            cause: Cause::Port,
-        },
-        Err(ServeFault::Store) => Ending {
-            cause: Cause::Lost,
-            ..refused(StoreFault::Store)
-        },
+        Ok(()) => Ending::Told(0, None),
+        Err(ServeFault::Device) => Ending::NoPort,
+        Err(ServeFault::Store) => Ending::Lost,
         Err(ServeFault::Memory) => refused(StoreFault::Memory),
     };
     (ending, archive.close())
@@ -326,16 +282,17 @@ fn announce(rt: &HostRuntime, path: &str) {
     }
 }
 
-/// Writes the sentence for a cause on standard error.
-fn advise(rt: &HostRuntime, path: &str, work: Work<'_>, cause: Cause) {
-    let sentence = match cause {
-        Cause::None => return,
-        Cause::Port => NO_PORT,
-        Cause::Lost => LOST,
-        Cause::Fault(Fault::Told(ToldFault::Store(StoreFault::Store))) => {
+/// Writes a sentence for a person on standard error, if a job failed.
+fn advise(rt: &HostRuntime, path: &str, work: Work<'_>, ending: &Ending) {
+    let sentence = match ending {
+        Ending::Done(_) | Ending::Told(_, None) => return,
+        Ending::NoPort => NO_PORT,
+        Ending::Lost => LOST,
+        Ending::Told(_, Some(Fault::Store(StoreFault::Store)))
+        | Ending::Refused(Fault::Store(StoreFault::Store)) => {
             cause_of(rt, path, matches!(work, Work::Create))
         }
-        Cause::Fault(fault) => advice_on(fault),
+        Ending::Told(_, Some(fault)) | Ending::Refused(fault) => advice_on(*fault),
     };
     let _ = eprint!(rt; "tacho: {path}: {sentence}\n");
 }
@@ -344,11 +301,7 @@ fn advise(rt: &HostRuntime, path: &str, work: Work<'_>, cause: Cause) {
 /// back to the file at close: the next open does that. After a fault standard error gets a sentence for a person.
 pub fn at_file(rt: &HostRuntime, path: &str, work: Work<'_>) -> u8 {
     announce(rt, path);
-    let Ending {
-        line,
-        status,
-        cause,
-    } = match open_file(rt, path, work) {
+    let ending = match open_file(rt, path, work) {
         Ok(conn) => {
             let (ending, conn) = at_connection(rt, conn, path, work);
             if let Some(conn) = conn {
@@ -358,7 +311,7 @@ pub fn at_file(rt: &HostRuntime, path: &str, work: Work<'_>) -> u8 {
         }
         Err(fault) => refused(fault),
     };
-    let status = tell(rt, line, status);
-    advise(rt, path, work, cause);
+    let status = tell(rt, &ending);
+    advise(rt, path, work, &ending);
     status
 }

@@ -10,9 +10,11 @@ use std::env;
 use std::io::{self, ErrorKind, IsTerminal};
 use std::process::ExitCode;
 use std::rt::Env;
-use tacho_cli::{Asked, Job, Usage, asked_early, help_of, help_text, usage_text};
+use tacho_cli::{Asked, Job, Usage, asked_early, help_of, help_text, tell_answer, usage_text};
+use tacho_desk::Fault;
 use tacho_disk::card_files;
-use tacho_state::is_key;
+use tacho_sheet::SheetFault;
+use tacho_state::{Column, is_key};
 use tacho_time::Device;
 
 /// The arguments of the command line, including the program's name.
@@ -20,24 +22,20 @@ fn words(rt: &(impl Env + AllocGlobal)) -> io::Result<Vec<String>> {
     Ok(env::args(rt)?.collect(rt.alloc())?)
 }
 
-/// Reports that memory ran out. Allocates no memory.
-fn no_memory(rt: &impl Print) -> ExitCode {
-    let _ = print!(rt; "M1 no memory\n");
-    ExitCode::from(3)
+/// Prints the line of a fault, and returns the program's status. Allocates no memory.
+fn refuse(rt: &HostRuntime, fault: Fault) -> u8 {
+    tell_answer(&mut Device::new(rt.stdout()), &Err(fault))
+}
+
+/// Reports that memory ran out.
+fn no_memory(rt: &HostRuntime) -> ExitCode {
+    ExitCode::from(refuse(rt, Fault::Memory))
 }
 
 /// Shows how the program is used.
 fn usage(rt: &impl Eprint, text: &str) -> ExitCode {
     let _ = eprint!(rt; "{text}");
     ExitCode::from(2)
-}
-
-/// Reports that the office's key doesn't have the form of a key, and returns the program's status.
-fn no_key(rt: &impl Print) -> u8 {
-    match print!(rt; "E9 bad value for key\n") {
-        Ok(()) => 1,
-        Err(_) => 3,
-    }
 }
 
 /// Whether a job reads standard input.
@@ -69,7 +67,9 @@ fn run(rt: &HostRuntime, job: Job<'_>) -> u8 {
         Job::Migrate { archive } => at_file(rt, archive, Work::Migrate),
         Job::Check { archive } => at_file(rt, archive, Work::Check),
         Job::AtDesk(job) => at_file(rt, job.archive, Work::Task(job)),
-        Job::Serve { key, .. } if !is_key(key) => no_key(rt),
+        Job::Serve { key, .. } if !is_key(key) => {
+            refuse(rt, Fault::from(SheetFault::Column(Column::Key)))
+        }
         Job::Serve {
             archive,
             key,
