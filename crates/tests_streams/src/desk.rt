@@ -370,7 +370,7 @@ const DRIVERS: &str = "\
 ";
 
 /// The list of all drivers.
-const LIST: Job<'static> = Job::AtDesk(DeskJob {
+pub(crate) const LIST: Job<'static> = Job::AtDesk(DeskJob {
     archive: "a.db",
     want: Want::Drivers,
     driver: "",

@@ -10,6 +10,8 @@ mod desk;
 #[cfg(test)]
 mod faulty;
 #[cfg(test)]
+mod files;
+#[cfg(test)]
 mod heads;
 #[cfg(test)]
 mod readings;
