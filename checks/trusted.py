@@ -76,7 +76,7 @@ AUDITOR = Order(
          "tacho_http: Run Answer Serve Reply"),
         ("who may ask for what, and what a driver's requests look at", "tacho_http: Routes Asked Access Laws"),
         ("requests and replies as bytes", "tacho_message: Head Fields Request Length Body Reply"),
-        ("what is done at an archive, and what is printed of it", "tacho_desk: Commands Wants Words Tasks Doing Told Fault Own Version"),
+        ("what is done at an archive, and what is printed of it", "tacho_desk: Commands Wants Words Tasks Doing Told Own Version; tacho_sheet: Fault"),
         DATABASE,
         ("what a card file says",
          "tacho_card: CardFile DriverActivity Chain DailyRecord ActivityChangeInfo Reading Faults"),
