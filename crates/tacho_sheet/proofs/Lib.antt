@@ -20,3 +20,4 @@ mod PageFacts
 pub mod EvidenceLemmas
 pub mod WhyLemmas
 pub mod WhyLawLemmas
+mod FaultLemmas

@@ -17,13 +17,15 @@ read_fault read.TooLarge = fault.TooLarge
 read_fault read.Failed = fault.Device
 read_fault read.Memory = fault.Memory
 
--- that of a card; below, of an archive, of a text of CSV, and of a date. If a library ran out of memory, the fault is Memory.
+-- that of a card; below, of an archive, of a text of CSV, and of a date. A fault has one value, whichever library reports it: if one of them
+-- ran out of memory, it is Memory, and that of a card file is Card.
 abbrev pub card_fault : CardFault → Fault
 card_fault card.Memory = fault.Memory
 card_fault f = fault.Card f
 
 abbrev pub fault_of_store : StoreFault → Fault
 fault_of_store store.Memory = fault.Memory
+fault_of_store (store.Card f) = card_fault f
 fault_of_store f = fault.Store f
 
 abbrev pub sheet_fault : SheetFault → Fault

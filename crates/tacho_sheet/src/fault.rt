@@ -62,7 +62,7 @@ pub enum Fault {
     Time(TimeFault),
     /// A card file has a fault, other than that memory ran out.
     Card(CardFault),
-    /// The archive refused, or the store failed.
+    /// The archive refused, other than for a fault of a card file, or the store failed.
     Store(StoreFault),
     /// A text of CSV or a key has a fault, other than that memory ran out.
     Sheet(SheetFault),
@@ -116,6 +116,7 @@ impl From<StoreFault> for Fault {
     fn from(fault: StoreFault) -> Fault {
         match fault {
             StoreFault::Memory => Fault::Memory,
+            StoreFault::Card(fault) => Fault::from(fault),
             fault => Fault::Store(fault),
         }
     }
