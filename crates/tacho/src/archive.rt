@@ -11,7 +11,7 @@ use std::alloc::Global;
 use std::fs;
 use std::io::IsTerminal;
 use tacho_check::{Unsound, check, check_text};
-use tacho_cli::{CardFiles, DeskJob, answer_at_desk, import_files, read_file, tell_answer};
+use tacho_cli::{CardFiles, DeskJob, answer_at_desk, import_files, read_input, tell_answer};
 use tacho_desk::{Fault, part_of};
 use tacho_disk::{NotOwned, Watched, cause_of, make_own};
 use tacho_serve::{Place, ServeFault, serve};
@@ -165,7 +165,7 @@ impl CardFiles for Cards<'_> {
 
     fn read(&self, alloc: Global, name: &str) -> Result<Vec<u8>, Fault> {
         match fs::File::open(self.rt, name) {
-            Ok(file) => read_file(alloc, &mut Device::new(file)),
+            Ok(file) => read_input(alloc, &mut Device::new(file)),
             Err(_) => Err(Fault::Device),
         }
     }

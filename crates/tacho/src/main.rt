@@ -42,7 +42,7 @@ fn usage(rt: &impl Eprint, text: &str) -> ExitCode {
 fn has_input(job: Job<'_>) -> bool {
     match job {
         Job::Dump | Job::Holder | Job::Card { .. } | Job::Listen { .. } => true,
-        Job::AtDesk(job) => job.want.takes_input(),
+        Job::AtDesk(job) => job.wish.want.takes_input(),
         Job::Init { .. }
         | Job::Migrate { .. }
         | Job::Check { .. }

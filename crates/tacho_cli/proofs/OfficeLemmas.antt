@@ -5,17 +5,19 @@ use Rattle.std.proofs.lemmas.List.{length-replicate}
 use Rattle.std.specs.Prelude.{IfSome, replicate}
 use Rattle.tacho_time.specs.declared.fault.TimeFault.{TimeFault}
 use Rattle.tacho_state.specs.State.{State}
+use Rattle.tacho_card.specs.declared.fault.CardFault.{CardFault}
+use Rattle.tacho_card.specs.declared.fault.CardFault.TheVariants as card
 use Rattle.tacho_card.specs.declared.file.Part.{Part}
 use Rattle.tacho_state.specs.declared.caller.Caller.{Caller}
 use Rattle.tacho_state.specs.declared.caller.Caller.TheVariants as caller
 use Rattle.tacho_sheet.specs.declared.fault.SheetFault.{SheetFault}
 use Rattle.tacho_sheet.specs.declared.fault.SheetFault.TheVariants as sheet
 use Rattle.tacho_desk.specs.Doing.{AsksOnly, Serves}
-use Rattle.tacho_sheet.specs.Fault.{IsFailure, sheet_fault}
+use Rattle.tacho_sheet.specs.Fault.{IsFailure, card_fault, sheet_fault}
 use Rattle.tacho_desk.specs.Tasks.{Does, IsFaulty, IsSound, want_of}
 use Rattle.tacho_desk.specs.Told.{Answer}
 use Rattle.tacho_desk.specs.Wants.{is_command, takes_input}
-use Rattle.tacho_desk.specs.Words.{IsTask, by_part, by_time}
+use Rattle.tacho_desk.specs.Words.{IsTask, Wish, by_part, by_time}
 use Rattle.tacho_sheet.specs.declared.fault.Fault.{Fault}
 use Rattle.tacho_sheet.specs.declared.fault.Fault.TheVariants as fault
 use Rattle.tacho_desk.specs.declared.task.Task.{Task}
@@ -23,7 +25,7 @@ use Rattle.tacho_desk.specs.declared.task.Task.TheVariants as task
 use Rattle.tacho_desk.specs.declared.want.Want.{Want}
 use Rattle.tacho_desk.specs.declared.want.Want.TheVariants as want
 use Rattle.tacho_desk.proofs.MeantLemmas.{IsSameAsItself, nothing, served_as}
-use Rattle.tacho_cli.specs.Office.{AreArgumentsFaulty, AreSound, HasNotRead, HasRead, IsFaultyOver, Performed, Performs}
+use Rattle.tacho_cli.specs.Office.{AreArgumentsFaulty, AreSound, HasNotRead, HasRead, IsFaultyOver, OfficeWants, Performed, Performs}
 use Rattle.tacho_cli.proofs.CommandLemmas.{any_input, some_input}
 
 -- ---- X2
@@ -44,6 +46,11 @@ words_without want.Import c driver word is = grind (arith, part_without)
 words_without want.Drivers caller.Office [] word is = cc
 words_without w c driver word is = grind (arith, time_without)
 
+-- nor is a card file
+card_without : (e : CardFault) → fault.Device ≡ card_fault e → ⊥
+card_without card.Memory h = cc
+card_without e h = cc
+
 -- nor is a text of CSV or a key
 csv_without : (e : SheetFault) → fault.Device ≡ sheet_fault e → ⊥
 csv_without sheet.Memory h = cc
@@ -52,7 +59,7 @@ csv_without e h = cc
 -- the fault of an input is one of a task that has an input, and it is not X2
 faulty_takes : (t : Task) (input : List ℕ) (f : Fault) → IsFaulty t input f → (takes_input (want_of t) ≡ true) × (f ≡ fault.Device → ⊥)
 faulty_takes task.Register input f h = (refl, λ e. csv_without h.0 (sym e ∙ h.2))
-faulty_takes (task.Import caller part) input f h = (refl, λ e. let is = h.2 in cc)
+faulty_takes (task.Import caller part) input f h = (refl, λ e. card_without h.0 (sym e ∙ h.2))
 faulty_takes (task.Enter n) input f h = (refl, λ e. csv_without h.0 (sym e ∙ h.2))
 faulty_takes (task.Key n) input f h = (refl, λ e. csv_without h.0 (sym e ∙ h.2))
 faulty_takes t input f h = absurd h
@@ -72,64 +79,64 @@ asks_as old new Sound AlsoSound Faulty AlsoFaulty (Err f) sound faulty (inr (sam
 asks_as old new Sound AlsoSound Faulty AlsoFaulty (Err f) sound faulty (inr (same, inr memory)) = inr (same, inr memory)
 
 -- so X2 is no answer
-never_device : {K : Type 0} (old new : K) (w : Want) (driver word input : List ℕ)
-    → AsksOnly old new (AreSound w driver word input) (AreArgumentsFaulty w driver word input) (Err fault.Device) → ⊥
-never_device old new w driver word input (inl (sound, archive)) = archive
-never_device old new w driver word input (inr (same, inr memory)) = cc
-never_device old new w driver word input (inr (same, inl (Err f, is, e))) = words_without w caller.Office driver word (rw (← e) at is)
-never_device old new w driver word input (inr (same, inl (Ok t, is, h))) = over_without (takes_input w) t input h
+never_device : {K : Type 0} (old new : K) (w : Wish) (input : List ℕ)
+    → AsksOnly old new (AreSound w input) (AreArgumentsFaulty w input) (Err fault.Device) → ⊥
+never_device old new w input (inl (sound, archive)) = archive
+never_device old new w input (inr (same, inr memory)) = cc
+never_device old new w input (inr (same, inl (Err f, is, e))) = words_without w.want caller.Office w.driver w.word (rw (← e) at is)
+never_device old new w input (inr (same, inl (Ok t, is, h))) = over_without (takes_input w.want) t input h
 
 -- a job at an archive, by its arguments and by whether the reader failed
-module _ {w : Want} {driver word : List ℕ} {unread : Option (List ℕ)} {failed : Bool} {K : Type 0} {stands : K → State → Type 0}
+module _ {w : Wish} {unread : Option (List ℕ)} {failed : Bool} {K : Type 0} {stands : K → State → Type 0}
     {is_clean is_live : K → Type 0} {leaves : K → List State → Type 0} {is_same : K → K → Type 0} where
   -- the input was read, or is not needed
   performed_by : {old new : K} {answer : Answer} (input : List ℕ) → IfSome unread (λ all. input ≡ all) → (failed ≡ true → ⊥)
-      → Serves stands is_clean is_live leaves is_same old new (is_command w) answer (Performs w driver word input)
-      → AsksOnly old new (AreSound w driver word input) (AreArgumentsFaulty w driver word input) answer
-      → Performed stands is_clean is_live leaves is_same old new w driver word unread failed answer
+      → Serves stands is_clean is_live leaves is_same old new (is_command w.want) answer (Performs w input)
+      → AsksOnly old new (AreSound w input) (AreArgumentsFaulty w input) answer
+      → Performed stands is_clean is_live leaves is_same old new w unread failed answer
   performed_by {old} {new} input whole sound serves asks = record {
     input = input;
     read = whole;
     device = λ e. absurd (sound e);
     serves = λ _. serves;
-    x2 = λ e. absurd (never_device old new w driver word input (rw e at asks));
+    x2 = λ e. absurd (never_device old new w input (rw e at asks));
     asks = λ _. asks;
   }
 
   -- nothing was done
   stopped : IsSameAsItself is_same → (keeper : K) (f : Fault) (input : List ℕ) → IfSome unread (λ all. input ≡ all) → (failed ≡ true → ⊥)
-      → ((s : State) → Performs w driver word input s (Err f) s ⊎ IsFailure f)
-      → AreArgumentsFaulty w driver word input f ⊎ (f ≡ fault.Memory)
-      → Performed stands is_clean is_live leaves is_same keeper keeper w driver word unread failed (Err f)
+      → ((s : State) → Performs w input s (Err f) s ⊎ IsFailure f)
+      → AreArgumentsFaulty w input f ⊎ (f ≡ fault.Memory)
+      → Performed stands is_clean is_live leaves is_same keeper keeper w unread failed (Err f)
   stopped same_self keeper f input whole sound performs faulty =
       performed_by input whole sound
-      (nothing stands is_clean is_live leaves is_same same_self keeper (is_command w) f (Performs w driver word input) performs)
+      (nothing stands is_clean is_live leaves is_same same_self keeper (is_command w.want) f (Performs w input) performs)
       (inr (refl, faulty))
 
   -- the arguments were refused
-  pub refused_words : IsSameAsItself is_same → (keeper : K) (f : Fault) → failed ≡ false → IsTask w caller.Office driver word (Err f)
-      → Performed stands is_clean is_live leaves is_same keeper keeper w driver word unread failed (Err f)
+  pub refused_words : IsSameAsItself is_same → (keeper : K) (f : Fault) → failed ≡ false → OfficeWants w (Err f)
+      → Performed stands is_clean is_live leaves is_same keeper keeper w unread failed (Err f)
   refused_words same_self keeper f sound is =
       let i = any_input unread in
       stopped same_self keeper f i.input i.told (λ e. cc) (λ s. inl (Err f, is, (refl, refl))) (inl (Err f, is, refl))
 
   -- a task without an input
-  pub without_input : {old new : K} {answer : Answer} (t : Task) → failed ≡ false → IsTask w caller.Office driver word (Ok t)
-      → want_of t ≡ w → takes_input w ≡ false
+  pub without_input : {old new : K} {answer : Answer} (t : Task) → failed ≡ false → OfficeWants w (Ok t)
+      → want_of t ≡ w.want → takes_input w.want ≡ false
       → Serves stands is_clean is_live leaves is_same old new (is_command (want_of t)) answer (Does t [])
       → AsksOnly old new (IsSound t []) (IsFaulty t []) answer
-      → Performed stands is_clean is_live leaves is_same old new w driver word unread failed answer
+      → Performed stands is_clean is_live leaves is_same old new w unread failed answer
   without_input {old} {new} {answer} t sound is same none d asks =
       let i = any_input unread in
       performed_by i.input i.told (λ e. cc)
-      (served_as stands is_clean is_live leaves is_same old new (is_command w) answer (Does t []) (Performs w driver word i.input)
+      (served_as stands is_clean is_live leaves is_same old new (is_command w.want) answer (Does t []) (Performs w i.input)
       (λ s told after does. (Ok t, is, rw none does)) (rw same at d))
       (asks_as old new _ _ _ _ answer (λ valid. (t, is, rw none valid)) (λ f h. absurd (let takes = (faulty_takes t [] f h).0 in cc)) asks)
 
   -- an input that was not read
-  pub unread_input : IsSameAsItself is_same → (keeper : K) (t : Task) (f : Fault) → IsTask w caller.Office driver word (Ok t)
-      → takes_input w ≡ true → HasNotRead unread failed f
-      → Performed stands is_clean is_live leaves is_same keeper keeper w driver word unread failed (Err f)
+  pub unread_input : IsSameAsItself is_same → (keeper : K) (t : Task) (f : Fault) → OfficeWants w (Ok t)
+      → takes_input w.want ≡ true → HasNotRead unread failed f
+      → Performed stands is_clean is_live leaves is_same keeper keeper w unread failed (Err f)
   unread_input same_self keeper t fault.TooLarge is one h =
       let i = some_input (λ input. 262144 < length input) unread (replicate 262145 0) h.0 (simp length-replicate (omega arith)) in
       stopped same_self keeper fault.TooLarge i.input i.told h.1 (λ s. inl (Ok t, is, rw one (inl (i.holds, refl, refl))))
@@ -150,14 +157,14 @@ module _ {w : Want} {driver word : List ℕ} {unread : Option (List ℕ)} {faile
   unread_input same_self keeper t f is one h = absurd h
 
   -- an input that was read
-  pub over_input : {old new : K} {answer : Answer} (t : Task) (input : List ℕ) → IsTask w caller.Office driver word (Ok t) → want_of t ≡ w
-      → takes_input w ≡ true → HasRead unread failed input
+  pub over_input : {old new : K} {answer : Answer} (t : Task) (input : List ℕ) → OfficeWants w (Ok t) → want_of t ≡ w.want
+      → takes_input w.want ≡ true → HasRead unread failed input
       → Serves stands is_clean is_live leaves is_same old new (is_command (want_of t)) answer (Does t input)
       → AsksOnly old new (IsSound t input) (IsFaulty t input) answer
-      → Performed stands is_clean is_live leaves is_same old new w driver word unread failed answer
+      → Performed stands is_clean is_live leaves is_same old new w unread failed answer
   over_input {old} {new} {answer} t input is same one h d asks =
       performed_by input h.whole h.sound
-      (served_as stands is_clean is_live leaves is_same old new (is_command w) answer (Does t input) (Performs w driver word input)
+      (served_as stands is_clean is_live leaves is_same old new (is_command w.want) answer (Does t input) (Performs w input)
       (λ s told after does. (Ok t, is, rw one (inr (h.within, does)))) (rw same at d))
       (asks_as old new _ _ _ _ answer (λ valid. (t, is, rw one (h.within, valid)))
       (λ f wrong. (Ok t, is, rw one (inr (h.within, wrong)))) asks)

@@ -10,6 +10,7 @@ use Rattle.tacho_sheet.specs.declared.fault.LeftOut.TheVariants as left_out
 use Rattle.tacho_sheet.specs.declared.fault.SheetFault.TheVariants as sheet
 use Rattle.tacho_sheet.specs.declared.fault.Fault.{Fault}
 use Rattle.tacho_sheet.specs.declared.fault.Fault.TheVariants as fault
+use Rattle.tacho_sheet.specs.Fault.{card_fault, fault_of_store, sheet_fault}
 use Rattle.tacho_sheet.specs.Lines.{fault_line}
 use Rattle.tacho_cli.specs.Fault.{exit_status}
 use Rattle.tacho_cli.specs.Words.{act_named}
@@ -44,7 +45,7 @@ card_faults =
 bad_cards : map (λ f. exit_status (fault.Card f)) card_faults ≡ replicate 14 1
 bad_cards = refl
 
-bad_files : map (λ f. exit_status (fault.Store (store.Card f))) card_faults ≡ replicate 14 1
+bad_files : map (λ f. exit_status (fault_of_store (store.Card f))) card_faults ≡ replicate 14 1
 bad_files = refl
 
 -- of the archive
@@ -67,6 +68,11 @@ failures = fault.Memory ∷ fault.Store store.Store ∷ fault.Device ∷ []
 
 failed : map exit_status failures ≡ replicate 3 3
 failed = refl
+
+-- also if a library below ran out of memory
+failed_below : map exit_status (card_fault card.Memory ∷ sheet_fault sheet.Memory ∷ fault_of_store store.Memory
+    ∷ fault_of_store (store.Card card.Memory) ∷ []) ≡ replicate 4 3
+failed_below = refl
 
 failure_lines : map fault_line failures ≡ map codes ("M1 no memory\n" ∷ "S12 store failed\n" ∷ "X2 device failed\n" ∷ [])
 failure_lines = refl

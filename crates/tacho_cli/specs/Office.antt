@@ -6,11 +6,10 @@ use Rattle.tacho_desk.specs.Doing.{AsksOnly, Doing, Refuses, Serves}
 use Rattle.tacho_desk.specs.Tasks.{Does, IsFaulty, IsSound}
 use Rattle.tacho_desk.specs.Told.{Answer, bytes_of}
 use Rattle.tacho_desk.specs.Wants.{is_command, takes_input}
-use Rattle.tacho_desk.specs.Words.{IsTask, Wanted}
+use Rattle.tacho_desk.specs.Words.{IsTask, Wanted, Wish, wish_in}
 use Rattle.tacho_sheet.specs.declared.fault.Fault.{Fault}
 use Rattle.tacho_sheet.specs.declared.fault.Fault.TheVariants as fault
 use Rattle.tacho_desk.specs.declared.task.Task.{Task}
-use Rattle.tacho_desk.specs.declared.want.Want.{Want}
 use Rattle.tacho_cli.specs.Command.{Reply, failure_reply, IsWrittenOut}
 use Rattle.tacho_cli.specs.declared.job.Job.{Job}
 use Rattle.tacho_cli.specs.declared.job.Job.TheVariants as job
@@ -32,10 +31,13 @@ abbrev pub DoesTask : Bool → Wanted → List ℕ → State → Doing
 DoesTask takes (Err f) input s = Refuses f s
 DoesTask takes (Ok t) input s = DoesOver takes t input s
 
--- what the office asks for; its arguments are read from left to right, and then its input
-abbrev pub Performs : Want → List ℕ → List ℕ → List ℕ → State → Doing
-Performs want driver word input s answer after =
-    (wanted : Wanted) × IsTask want caller.Office driver word wanted × DoesTask (takes_input want) wanted input s answer after
+-- the task that the office asks for, or the fault of its arguments, read from left to right
+abbrev pub OfficeWants : Wish → Wanted → Type 0
+OfficeWants w wanted = IsTask w.want caller.Office w.driver w.word wanted
+
+-- what the office asks for is done, after its input is read
+abbrev pub Performs : Wish → List ℕ → State → Doing
+Performs w input s answer after = (wanted : Wanted) × OfficeWants w wanted × DoesTask (takes_input w.want) wanted input s answer after
 
 -- ---- access to the archive
 
@@ -44,8 +46,8 @@ abbrev pub IsSoundOver : Bool → Task → List ℕ → Type 0
 IsSoundOver true t input = (length input ≤ 262144) × IsSound t input
 IsSoundOver false t input = IsSound t []
 
-abbrev pub AreSound : Want → List ℕ → List ℕ → List ℕ → Type 0
-AreSound want driver word input = (t : Task) × IsTask want caller.Office driver word (Ok t) × IsSoundOver (takes_input want) t input
+abbrev pub AreSound : Wish → List ℕ → Type 0
+AreSound w input = (t : Task) × OfficeWants w (Ok t) × IsSoundOver (takes_input w.want) t input
 
 -- the arguments have a fault, or else the input has
 abbrev pub IsFaultyOver : Bool → Task → List ℕ → Fault → Type 0
@@ -56,9 +58,8 @@ abbrev pub IsFaultOfTask : Bool → Wanted → List ℕ → Fault → Type 0
 IsFaultOfTask takes (Err g) input f = f ≡ g
 IsFaultOfTask takes (Ok t) input f = IsFaultyOver takes t input f
 
-abbrev pub AreArgumentsFaulty : Want → List ℕ → List ℕ → List ℕ → Fault → Type 0
-AreArgumentsFaulty want driver word input f =
-    (wanted : Wanted) × IsTask want caller.Office driver word wanted × IsFaultOfTask (takes_input want) wanted input f
+abbrev pub AreArgumentsFaulty : Wish → List ℕ → Fault → Type 0
+AreArgumentsFaulty w input f = (wanted : Wanted) × OfficeWants w wanted × IsFaultOfTask (takes_input w.want) wanted input f
 
 -- ---- the reader
 
@@ -80,13 +81,13 @@ HasNotRead unread failed f = ⊥
 -- The job was done with the whole input of the reader, if its bytes are known, otherwise with some input. Or the reader failed: X2, and the
 -- archive was not accessed. X2 occurs only then. If the arguments and the input are valid, the answer is the archive's.
 pub record Performed {K : Type 0} (stands : K → State → Type 0) (is_clean is_live : K → Type 0) (leaves : K → List State → Type 0)
-    (is_same : K → K → Type 0) (old new : K) (want : Want) (driver word : List ℕ) (unread : Option (List ℕ)) (failed : Bool) (answer : Answer) : Type 0 where
+    (is_same : K → K → Type 0) (old new : K) (w : Wish) (unread : Option (List ℕ)) (failed : Bool) (answer : Answer) : Type 0 where
   pub input : List ℕ
   pub read : IfSome unread (λ all. input ≡ all)
   pub device : failed ≡ true → (answer ≡ Err fault.Device) × (new ≡ old)
-  pub serves : failed ≡ false → Serves stands is_clean is_live leaves is_same old new (is_command want) answer (Performs want driver word input)
+  pub serves : failed ≡ false → Serves stands is_clean is_live leaves is_same old new (is_command w.want) answer (Performs w input)
   pub x2 : answer ≡ Err fault.Device → failed ≡ true
-  pub asks : failed ≡ false → AsksOnly old new (AreSound want driver word input) (AreArgumentsFaulty want driver word input) answer
+  pub asks : failed ≡ false → AsksOnly old new (AreSound w input) (AreArgumentsFaulty w input) answer
 
 -- the reply to an answer
 abbrev pub reply_of_answer : Answer → Reply
@@ -99,7 +100,7 @@ pub record Replied (IsAnswer : Answer → Type 0) (failed : Bool) (old new : Opt
   pub is : IsAnswer answer
   pub told : IsWrittenOut failed old new (reply_of_answer answer) status
 
--- a statement about a job at an archive, by what it asks for and its arguments
-abbrev pub OfDesk : Job → (Want → List ℕ → List ℕ → Type 0) → Type 0
-OfDesk (job.AtDesk j) Is = Is j.want j.driver.now j.word.now
+-- a statement about a job at an archive, by what it asks for
+abbrev pub OfDesk : Job → (Wish → Type 0) → Type 0
+OfDesk (job.AtDesk j) Is = Is (wish_in j.wish)
 OfDesk j Is = Unit {0}

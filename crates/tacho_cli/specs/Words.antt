@@ -8,6 +8,7 @@ use Rattle.clap.specs.declared.error.kind.ErrorKind.TheVariants.{OutOfMemory}
 use Rattle.tacho_cli.specs.declared.words.Usage.{Usage}
 use Rattle.tacho_cli.specs.declared.words.Usage.TheVariants as usage
 use Rattle.tacho_desk.specs.Wants.{takes_input}
+use Rattle.tacho_desk.specs.Words.{wish_in}
 use Rattle.tacho_desk.specs.declared.table.Act.{Act}
 use Rattle.tacho_desk.specs.declared.table.Act.TheVariants as act
 use Rattle.tacho_desk.specs.Commands.{Row as Command, all_commands, name_of}
@@ -55,7 +56,7 @@ abbrev pub has_input : Job → Bool
 has_input job.Dump = true
 has_input job.Holder = true
 has_input (job.Card part) = true
-has_input (job.AtDesk j) = takes_input j.want
+has_input (job.AtDesk j) = takes_input j.wish.want
 has_input (job.Listen archive port count) = true
 has_input other = false
 
@@ -90,7 +91,8 @@ IsJobOf act.Init rows (job.Init archive) = IsWord rows (codes "ARCHIVE") archive
 IsJobOf act.Migrate rows (job.Migrate archive) = IsWord rows (codes "ARCHIVE") archive.now
 IsJobOf act.Check rows (job.Check archive) = IsWord rows (codes "ARCHIVE") archive.now
 IsJobOf (act.AtDesk w) rows (job.AtDesk j) =
-    (j.want ≡ w) × IsWord rows (codes "ARCHIVE") j.archive.now × (j.driver.now ≡ driver_text rows) × (j.word.now ≡ other_text rows)
+    IsWord rows (codes "ARCHIVE") j.archive.now
+    × (wish_in j.wish ≡ record { want = w; driver = driver_text rows; word = other_text rows })
 IsJobOf act.Serve rows (job.Serve archive key port count) =
     IsWord rows (codes "ARCHIVE") archive.now × IsWord rows (codes "KEY") key.now
     × IsNumbered rows (codes "PORT") 65535 port × IsNumbered rows (codes "COUNT") 1000000 count

@@ -12,14 +12,13 @@ ghost use Rattle.tacho_sheet.specs.declared.fault.Fault.{Fault as FaultValue};
 ghost use Rattle.tacho_cli.specs.Files.{ImportsFiles, IsFileRead, file_answer_line};
 ghost use Rattle.tacho_cli.specs.Tally.{AnswersFile};
 
-use crate::office::input_of;
 use crate::reply::{tell, tell_answer, tell_fault};
 use crate::tally::Tally;
 use std::alloc::Global;
 use tacho_card::Part;
 use tacho_desk::{Fault, Task, Text, carry_out, part_of};
 use tacho_state::{Caller, Keeper};
-use tacho_time::{Failed, Sink, Source, write_all};
+use tacho_time::{Failed, Sink, write_all};
 
 /// Where card files are found by their names.
 pub trait CardFiles {
@@ -31,14 +30,6 @@ pub trait CardFiles {
     fn read(&self, alloc: Global, name: &str) -> Result<Vec<u8>, Fault>
         ensures ok { IfOk result (λ file. gives self.now name.now (Ok file.items) × IsFileRead (Ok file.items)) }
         ensures err { IfErr result (λ fault. gives self.now name.now (Err fault) × IsFileRead (Err fault)) };
-}
-
-/// Reads a file of at most 262,144 bytes. Fails with X1 if it is larger, with X2 if it can't be read, and with M1 if memory runs out.
-pub fn read_file<R: Source>(alloc: Global, reader: &mut R) -> Result<Vec<u8>, Fault>
-    ensures ok { IfOk result (λ file. IsFileRead (Ok file.items)) }
-    ensures err { IfErr result (λ fault. IsFileRead (Err fault)) }
-{
-    input_of(alloc, reader)
 }
 
 /// `tacho import ARCHIVE PART FILE..`: imports card files in order, as the office, each in a transaction of its own: a refusal doesn't stop

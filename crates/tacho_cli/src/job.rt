@@ -1,15 +1,11 @@
-use tacho_desk::Want;
+use tacho_desk::Wish;
 
-/// A job at an existing archive. Its arguments are kept as text; `perform_at_desk` reads them.
+/// A job at an existing archive. `perform_at_desk` reads its arguments.
 #[derive(Clone, Copy, Debug, PartialEq, Eq)]
 pub struct DeskJob<'a> {
     /// The path of the archive's file.
     pub archive: &'a str,
-    pub want: Want,
-    /// The driver's number, or an empty text if there is none.
-    pub driver: &'a str,
-    /// The other argument, or an empty text if there is none.
-    pub word: &'a str,
+    pub wish: Wish<'a>,
 }
 
 /// What a command line asks for.

@@ -2,7 +2,7 @@ ghost use Rattle.std.specs.Prelude.{◌≡◌, false, MatchResult, string_bytes}
 ghost use Rattle.tacho_cli.specs.Listen.{IsKeyOf, IsNoKey, IsWithoutKey};
 ghost use Rattle.tacho_cli.specs.Office.{Replied};
 
-use crate::office::input_of;
+use crate::office::read_input;
 use crate::reply::tell_fault;
 use std::alloc::Global;
 use tacho_desk::Fault;
@@ -35,7 +35,7 @@ fn key_of<R: Source>(alloc: Global, reader: &mut R) -> Result<String, Fault>
     ensures { MatchResult result (λ key. IsKeyOf (R.unread reader.old) (R.has_failed reader.new) (string_bytes key))
         (IsNoKey (R.unread reader.old) (R.has_failed reader.new)) }
 {
-    let input = input_of(alloc, reader)?;
+    let input = read_input(alloc, reader)?;
     let key = read_key_line(&input)?;
     Ok(String::from_str(alloc, key)?)
 }

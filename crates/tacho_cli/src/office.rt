@@ -1,9 +1,9 @@
 ghost use Rattle.std.specs.Prelude.{◌≡◌, Err, false, true, MatchResult};
-ghost use Rattle.tacho_desk.specs.Words.{IsTask};
+ghost use Rattle.tacho_desk.specs.Words.{wish_in};
 ghost use Rattle.tacho_sheet.specs.declared.fault.Fault.{Fault as FaultValue};
 ghost use Rattle.tacho_desk.specs.Told.{answer_of};
 ghost use Rattle.tacho_desk.specs.Wants.{takes_input as has_text};
-ghost use Rattle.tacho_cli.specs.Office.{HasNotRead, HasRead, OfDesk, Performed, Replied};
+ghost use Rattle.tacho_cli.specs.Office.{HasNotRead, HasRead, OfDesk, OfficeWants, Performed, Replied};
 ghost use Rattle.tacho_cli.specs.Words.{at_desk, has_input};
 
 use crate::job::{DeskJob, Job};
@@ -36,11 +36,10 @@ pub fn perform_at_desk<K: Keeper, R: Source, W: Sink>(
     requires reader { R.has_failed reader.old ≡ false }
     requires writer { W.has_failed writer.old ≡ false }
     ensures performed { Replied (Performed K.stands K.is_clean K.is_live K.leaves K.is_same keeper.old keeper.new
-        job.entry.want job.entry.driver.now job.entry.word.now (R.unread reader.old) (R.has_failed reader.new))
+        (wish_in job.entry.wish) (R.unread reader.old) (R.has_failed reader.new))
         (W.has_failed writer.new) (W.written writer.old) (W.written writer.new) result }
-    ensures alone { has_text job.entry.want ≡ false → reader.new ≡ reader.old }
-    ensures words { (fault : FaultValue) → IsTask job.entry.want Caller.Office job.entry.driver.now job.entry.word.now (Err fault)
-        → reader.new ≡ reader.old }
+    ensures alone { has_text job.entry.wish.want ≡ false → reader.new ≡ reader.old }
+    ensures words { (fault : FaultValue) → OfficeWants (wish_in job.entry.wish) (Err fault) → reader.new ≡ reader.old }
 {
     tell_answer(writer, &answer_at_desk(alloc, job, keeper, reader))
 }
@@ -56,13 +55,12 @@ pub fn perform<K: Keeper, R: Source, W: Sink>(
     requires desk { at_desk job ≡ true }
     requires reader { R.has_failed reader.old ≡ false }
     requires writer { W.has_failed writer.old ≡ false }
-    ensures performed { OfDesk job.entry (λ want driver word.
-        Replied (Performed K.stands K.is_clean K.is_live K.leaves K.is_same keeper.old keeper.new want driver word
+    ensures performed { OfDesk job.entry (λ wish.
+        Replied (Performed K.stands K.is_clean K.is_live K.leaves K.is_same keeper.old keeper.new wish
         (R.unread reader.old) (R.has_failed reader.new))
         (W.has_failed writer.new) (W.written writer.old) (W.written writer.new) result) }
     ensures alone { has_input job.entry ≡ false → reader.new ≡ reader.old }
-    ensures words { OfDesk job.entry (λ want driver word. (fault : FaultValue) → IsTask want Caller.Office driver word (Err fault)
-        → reader.new ≡ reader.old) }
+    ensures words { OfDesk job.entry (λ wish. (fault : FaultValue) → OfficeWants wish (Err fault) → reader.new ≡ reader.old) }
 {
     let Job::AtDesk(job) = job else {
         unreachable!()
@@ -79,22 +77,21 @@ pub fn answer_at_desk<K: Keeper, R: Source>(
 ) -> Result<Text, Fault>
     requires reader { R.has_failed reader.old ≡ false }
     ensures performed { Performed K.stands K.is_clean K.is_live K.leaves K.is_same keeper.old keeper.new
-        job.entry.want job.entry.driver.now job.entry.word.now (R.unread reader.old) (R.has_failed reader.new) (answer_of result) }
-    ensures alone { has_text job.entry.want ≡ false → reader.new ≡ reader.old }
-    ensures words { (fault : FaultValue) → IsTask job.entry.want Caller.Office job.entry.driver.now job.entry.word.now (Err fault)
-        → reader.new ≡ reader.old }
+        (wish_in job.entry.wish) (R.unread reader.old) (R.has_failed reader.new) (answer_of result) }
+    ensures alone { has_text job.entry.wish.want ≡ false → reader.new ≡ reader.old }
+    ensures words { (fault : FaultValue) → OfficeWants (wish_in job.entry.wish) (Err fault) → reader.new ≡ reader.old }
 {
-    let (driver, word) = (job.driver.as_bytes(), job.word.as_bytes());
-    let task = task_of(job.want, Caller::Office, driver, word)?;
-    if !job.want.takes_input() {
+    let task = task_of(Caller::Office, job.wish)?;
+    if !job.wish.want.takes_input() {
         return carry_out(alloc, keeper, task, &[]);
     }
-    let input = input_of(alloc, reader)?;
+    let input = read_input(alloc, reader)?;
     carry_out(alloc, keeper, task, &input)
 }
 
-/// Reads the input of a job.
-pub(crate) fn input_of<R: Source>(alloc: Global, reader: &mut R) -> Result<Vec<u8>, Fault>
+/// Reads an input of at most 262,144 bytes: a text of CSV, a card file or a key. Fails with X1 if it is larger, with X2 if it can't be read,
+/// and with M1 if memory runs out.
+pub fn read_input<R: Source>(alloc: Global, reader: &mut R) -> Result<Vec<u8>, Fault>
     ensures { MatchResult result (λ input. HasRead (R.unread reader.old) (R.has_failed reader.new) input.items)
         (λ fault. HasNotRead (R.unread reader.old) (R.has_failed reader.new) fault) }
 {

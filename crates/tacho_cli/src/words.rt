@@ -10,7 +10,7 @@ use crate::job::{DeskJob, Job};
 use clap::error::ErrorKind;
 use clap::{Arg, ArgMatches, Command, Error};
 use std::alloc::{AllocError, Global};
-use tacho_desk::{Act, Argument, Command as Row, Want, command_table};
+use tacho_desk::{Act, Argument, Command as Row, Wish, command_table};
 use tacho_sheet::read_number;
 
 /// Why a command line names no job.
@@ -132,9 +132,11 @@ fn job_of<'a>(act: Act, words: &ArgMatches<'a>) -> Result<Job<'a>, Usage>
             let driver = text_of(words, "DRIVER").or(text_of(words, "[DRIVER]"));
             Ok(Job::AtDesk(DeskJob {
                 archive: archive?,
-                want,
-                driver: driver.unwrap_or(""),
-                word: other_of(words),
+                wish: Wish {
+                    want,
+                    driver: driver.unwrap_or("").as_bytes(),
+                    word: other_of(words).as_bytes(),
+                },
             }))
         }
         Act::Serve => {

@@ -52,13 +52,13 @@ each_more : (Is : Summary → Driver → List ℕ → Type 0) (s : State) (liste
     → AreOfEach Is s listed text → driver_of x.number s ≡ Some d → Is x d row → AreOfEach Is s (listed ++ x ∷ []) (text ++ row)
 each_more Is s [] x text row d h e is =
     (d, e, row, [], ap (λ (t : List ℕ). t ++ row) h ∙ sym (append-nil row), is, refl)
-each_more Is s (y ∷ listed) x text row d (theirs, his_is, front, back, made, of_his, more) e is = (
+each_more Is s (y ∷ listed) x text row d (theirs, his_is, front, back, made, of_one, more) e is = (
   theirs,
   his_is,
   front,
   back ++ row,
   ap (λ (t : List ℕ). t ++ row) made ∙ append_assoc front back row,
-  of_his,
+  of_one,
   each_more Is s listed x back row d more e is,
 )
 

@@ -6,3 +6,4 @@ mod AllLemmas
 pub mod WordLemmas
 mod OwnLemmas
 mod PageFacts
+mod ArgumentLemmas

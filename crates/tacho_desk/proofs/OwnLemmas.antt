@@ -24,7 +24,7 @@ use Rattle.tacho_desk.specs.declared.want.MonthReading.{MonthReading}
 use Rattle.tacho_desk.specs.declared.want.MonthReading.TheVariants as month
 use Rattle.tacho_desk.specs.declared.want.Reading.{Reading}
 use Rattle.tacho_desk.specs.declared.want.Reading.TheVariants as reading
-use Rattle.tacho_desk.specs.Own.{IsHis, OneAnswer, OthersStay, SameAnswers}
+use Rattle.tacho_desk.specs.Own.{IsOwnTask, OneAnswer, OthersStay, SameAnswers}
 use Rattle.tacho_desk.specs.Tasks.{Does, IsFormOf, OfReport, OfStretches, ShowsMonth, ShowsReading, imported_told, want_of}
 use Rattle.tacho_desk.specs.Wants.{is_command}
 use Rattle.tacho_desk.specs.Told.{Answer}
@@ -32,11 +32,11 @@ use Rattle.tacho_desk.specs.declared.task.Task.{Task}
 use Rattle.tacho_desk.specs.declared.task.Task.TheVariants as task
 
 -- a driver's own task reads, or it is the import of their card
-his : (n : ℕ) (t : Task) → IsHis n t → (is_command (want_of t) ≡ false) ⊎ ((p : Part) × (t ≡ task.Import (caller.Driver n) p))
-his n t is = grind arith
+own_or_import : (n : ℕ) (t : Task) → IsOwnTask n t → (is_command (want_of t) ≡ false) ⊎ ((p : Part) × (t ≡ task.Import (caller.Driver n) p))
+own_or_import n t is = grind arith
 
 -- a reading changes nothing, and is the same in a state with the same rows of the driver
-reads_same : (n : ℕ) (t : Task) → IsHis n t → is_command (want_of t) ≡ false → (input : List ℕ) (s other : State)
+reads_same : (n : ℕ) (t : Task) → IsOwnTask n t → is_command (want_of t) ≡ false → (input : List ℕ) (s other : State)
     → driver_of n s ≡ driver_of n other → (answer : Answer) (after : State) → Does t input s answer after
     → (after ≡ s) × Does t input other answer other
 reads_same n t is reads input s other e answer after h = grind arith
@@ -79,7 +79,7 @@ import_same n part file (Ok content) s other e = own_same (import_by_driver part
 
 -- each of a driver's own tasks answers by the driver's rows alone
 pub same_answers : SameAnswers
-same_answers n t theirs input s other e answer after = by (his n t theirs)
+same_answers n t theirs input s other e answer after = by (own_or_import n t theirs)
   where
     Stays : Task → Type 0
     Stays t = Does t input s answer after → (left : State) × Does t input other answer left × (driver_of n after ≡ driver_of n left)

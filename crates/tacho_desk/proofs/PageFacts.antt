@@ -1,5 +1,6 @@
 -- What docs/FORMATS.md says of tasks is what the definitions say: with another value here, this file isn't accepted.
 use Rattle.std.proofs.Common.{◌≡◌, List, [], ◌∷◌, Ok, Err, Some, codes, map, true, false, refl}
+use Rattle.tacho_card.specs.declared.fault.CardFault.TheVariants as card
 use Rattle.tacho_card.specs.declared.file.Part.TheVariants as part
 use Rattle.tacho_state.specs.declared.caller.Caller.TheVariants as caller
 use Rattle.tacho_state.specs.declared.fault.StoreFault.TheVariants as store
@@ -49,7 +50,7 @@ capital = refl
 
 -- ---- faults
 
-pub memory : fault_of_store store.Memory ≡ fault.Memory
+pub memory : map fault_of_store (store.Memory ∷ store.Card card.Memory ∷ []) ≡ fault.Memory ∷ fault.Memory ∷ []
 memory = refl
 
 pub store_failed : fault_of_store store.Store ≡ fault.Store store.Store

@@ -8,7 +8,7 @@ use Rattle.tacho_state.specs.Steps.{Content, Turn}
 use Rattle.tacho_state.specs.declared.fault.StoreFault.{StoreFault}
 use Rattle.tacho_state.specs.declared.fault.StoreFault.TheVariants as store
 use Rattle.tacho_desk.specs.Doing.{AsksOnly, Doing, Serves, Steps, in_words}
-use Rattle.tacho_sheet.specs.Fault.{IsFailure, fault_of_store, sheet_fault}
+use Rattle.tacho_sheet.specs.Fault.{IsFailure, card_fault, fault_of_store, sheet_fault}
 use Rattle.tacho_sheet.specs.declared.fault.SheetFault.{SheetFault}
 use Rattle.tacho_desk.specs.Tasks.{OrCsv}
 use Rattle.tacho_desk.specs.Told.{Answer, Told, answer_of}
@@ -63,7 +63,7 @@ module _ {K A : Type 0} {old new : K} {result : Result A StoreFault} (Is : Resul
   -- a card file with a fault doesn't access the archive, and only such a file is answered with a file's fault
   abbrev pub AsksFile : Answer → Type 0
   AsksFile =
-      AsksOnly old new ((content : Content) × Is (Ok content)) (λ f. (g : CardFault) × Is (Err g) × (f ≡ fault_of_store (store.Card g)))
+      AsksOnly old new ((content : Content) × Is (Ok content)) (λ f. (g : CardFault) × Is (Err g) × (f ≡ card_fault g))
 
   pub import_asks : (words : A → Told) (answer : Answer) (content : Result Content CardFault) → Is content → answer ≡ in_words words result
       → AsksFile answer

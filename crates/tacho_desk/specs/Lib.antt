@@ -6,3 +6,4 @@ pub mod Tasks
 pub mod Words
 pub mod Commands
 pub mod Own
+pub mod Arguments

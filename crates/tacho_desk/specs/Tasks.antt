@@ -18,7 +18,6 @@ use Rattle.tacho_state.specs.Steps.{Content, register_step, import_step, enter_s
 use Rattle.tacho_state.specs.Summaries.{AreSummaries, Summary, driver_reading}
 use Rattle.tacho_state.specs.declared.caller.Caller.{Caller}
 use Rattle.tacho_state.specs.declared.entry.EntryLine.{EntryLine}
-use Rattle.tacho_state.specs.declared.fault.StoreFault.TheVariants as store
 use Rattle.tacho_state.specs.declared.imported.Imported.{Imported}
 use Rattle.tacho_state.specs.declared.imported.Imported.TheVariants as imported
 use Rattle.tacho_sheet.specs.declared.fault.SheetFault.{SheetFault}
@@ -35,7 +34,7 @@ use Rattle.tacho_sheet.specs.Reports.{breach_text, owed_text, IsGapText, IsMonth
 use Rattle.tacho_sheet.specs.Text.{entry_line, file_line, summary_line}
 use Rattle.tacho_sheet.specs.Why.{IsMonthWhy}
 use Rattle.tacho_desk.specs.Doing.{Doing, IsText, Lists, Refuses, Shows, Steps}
-use Rattle.tacho_sheet.specs.Fault.{sheet_fault, fault_of_store}
+use Rattle.tacho_sheet.specs.Fault.{card_fault, sheet_fault}
 use Rattle.tacho_desk.specs.Version.{version_text}
 use Rattle.tacho_desk.specs.Told.{Told, Added, Line, Long, File}
 use Rattle.tacho_sheet.specs.declared.fault.Fault.{Fault}
@@ -219,7 +218,7 @@ IsSound t input = Unit {0}
 -- the input has this fault
 abbrev pub IsFaulty : Task → List ℕ → Fault → Type 0
 IsFaulty task.Register input f = (e : SheetFault) × OrCsv (IsDriverRead input) (Err e) × (f ≡ sheet_fault e)
-IsFaulty (task.Import caller part) input f = (e : CardFault) × FileTells part input (Err e) × (f ≡ fault_of_store (store.Card e))
+IsFaulty (task.Import caller part) input f = (e : CardFault) × FileTells part input (Err e) × (f ≡ card_fault e)
 IsFaulty (task.Enter n) input f = (e : SheetFault) × OrCsv (IsRead input) (Err e) × (f ≡ sheet_fault e)
 IsFaulty (task.Key n) input f = (e : SheetFault) × IsKeyRead input (Err e) × (f ≡ sheet_fault e)
 IsFaulty t input f = ⊥

@@ -14,6 +14,17 @@ use Rattle.tacho_desk.specs.declared.task.Task.{Task}
 use Rattle.tacho_desk.specs.declared.task.Task.TheVariants as task
 use Rattle.tacho_desk.specs.declared.want.Want.{Want}
 use Rattle.tacho_desk.specs.declared.want.Want.TheVariants as want
+use Rattle.tacho_desk.specs.declared.want.Wish.{Wish as WishValue}
+
+-- what is asked for, with the texts of its arguments: the driver's number, and a part of a card file, a number, a day or a month
+pub record Wish : Type 0 where
+  pub want : Want
+  pub driver : List ℕ
+  pub word : List ℕ
+
+-- the same of a value of the code
+abbrev pub wish_in : WishValue → Wish
+wish_in w = record { want = w.want; driver = w.driver.now; word = w.word.now }
 
 -- the greatest number of a driver; below, that of an entry or a download
 abbrev pub most_driver : ℕ

@@ -3,6 +3,7 @@
 
 ghost use Rattle.std.specs.Prelude.{◌≡◌, ℕ, List};
 ghost use Rattle.tacho_state.specs.declared.caller.Caller.{Caller};
+ghost use Rattle.tacho_desk.specs.Arguments.{AreReadAsListed};
 ghost use Rattle.tacho_desk.specs.Own.{OneAnswer, OthersStay, RefusalsStay, SameAnswers};
 ghost use Rattle.tacho_desk.specs.Words.{IsTask, Wanted};
 ghost use Rattle.tacho_desk.specs.declared.want.Want.{Want};
@@ -18,6 +19,12 @@ use tacho_stretches::laws::one_list_of_stretches;
 pub fn one_task()
     ensures { (want : Want) (caller : Caller) (driver word : List ℕ) (a b : Wanted) → IsTask want caller driver word a
         → IsTask want caller driver word b → a ≡ b }
+{}
+
+/// The arguments of each command are read as the kinds that its row of the table names, from left to right: what is asked for is refused
+/// exactly with the fault of the first bad argument.
+pub fn arguments_are_read_as_listed()
+    ensures { AreReadAsListed }
 {}
 
 /// A refusal changes nothing.

@@ -22,5 +22,5 @@ pub use table::{Act, Command, command_table};
 pub use tacho_sheet::Fault;
 pub use task::{Task, carry_out};
 pub use text::Text;
-pub use want::{MonthOfAll, MonthReading, Reading, Want};
+pub use want::{MonthOfAll, MonthReading, Reading, Want, Wish};
 pub use words::{part_of, task_of};

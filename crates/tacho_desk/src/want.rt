@@ -91,3 +91,13 @@ impl Want {
         self.takes_input() || matches!(self, Want::Withdraw | Want::Base)
     }
 }
+
+/// What is asked for at an archive, with the texts of its arguments. A text for which the task has no argument is ignored.
+#[derive(Clone, Copy, Debug, PartialEq, Eq)]
+pub struct Wish<'a> {
+    pub want: Want,
+    /// The driver's number. It is ignored if a driver asks.
+    pub driver: &'a [u8],
+    /// The other argument: a part of a card file, a number, a day or a month.
+    pub word: &'a [u8],
+}

@@ -8,6 +8,7 @@ use Rattle.matchit.proofs.RenameLemmas.{first-rename}
 use Rattle.matchit.specs.Router.{RouteOf, map_key, rename}
 use Rattle.matchit.specs.Seek.{first}
 use Rattle.tacho_desk.specs.Wants.{is_command, is_own}
+use Rattle.tacho_desk.specs.Words.{Wish}
 use Rattle.tacho_desk.specs.declared.want.Want.{Want}
 use Rattle.tacho_message.specs.Length.{method_of}
 use Rattle.tacho_message.specs.declared.method.Method.{Method}
@@ -15,7 +16,7 @@ use Rattle.tacho_message.specs.declared.method.Method.TheVariants as method
 use Rattle.tacho_message.specs.declared.reply.Status.{Status}
 use Rattle.tacho_message.specs.declared.reply.Status.TheVariants as status
 use Rattle.tacho_http.specs.Access.{OwnWants, PostsAreCommands}
-use Rattle.tacho_http.specs.Asked.{Wish, is_post, same_asker, wish_at, wish_by, wish_of}
+use Rattle.tacho_http.specs.Asked.{is_post, same_asker, wish_at, wish_by, wish_of}
 use Rattle.tacho_http.specs.Routes.{Named, Rows, named_by, named_in, routes, with_offers}
 use Rattle.tacho_http.specs.declared.places.Asker.{Asker}
 use Rattle.tacho_http.specs.declared.places.Asker.TheVariants.{Driver}
@@ -27,19 +28,19 @@ Tests test rows is = rename (λ route. test route.value) rows ≡ rename (λ rou
 
 module _ (P : Want → Type 0) (a : Asker) where
   -- what is at a place meets P, if the place is for the asker
-  abbrev Fits : Place → Type 0
-  Fits place = same_asker a place.asker ≡ true → P place.want
+  abbrev Fits : Asker → Want → Type 0
+  Fits asker want = same_asker a asker ≡ true → P want
 
   -- what a test says of each place where a method is offered, it says of the place that a path names for the method: a walk reads patterns
   -- alone, so it finds the test's answer in the row of that place
-  in_route : (m : Method) (test : Place → Bool) (is : Bool) → Tests test (routes m) is → ((place : Place) → test place ≡ is → Fits place)
-      → (path : List ℕ) → IfSome (named_in (routes m) path) (λ named. Fits named.place)
+  in_route : (m : Method) (test : Place → Bool) (is : Bool) → Tests test (routes m) is → ((place : Place) → test place ≡ is → Fits place.asker place.want)
+      → (path : List ℕ) → IfSome (named_in (routes m) path) (λ named. Fits named.asker named.wish.want)
   in_route m test is same fits path =
       by (first (routes m) path) (sym (first-rename (λ route. test route.value) (routes m) path)
       ∙ (ap (λ rows. first rows path) same ∙ first-rename (λ route. is) (routes m) path))
     where
       by : (found : Option (RouteOf Place)) → map_key (λ route. test route.value) found ≡ map_key (λ route. is) found
-          → IfSome (option_map (named_by path) found) (λ named. Fits named.place)
+          → IfSome (option_map (named_by path) found) (λ named. Fits named.asker named.wish.want)
       by None e = tt
       by (Some route) e = fits route.value cc
 
@@ -48,14 +49,12 @@ module _ (P : Want → Type 0) (a : Asker) where
   Grants answer = IfOk answer (λ w. P w.want)
 
   -- what is granted is what the path names for the method
-  of_names : (found other : Option Named) → IfSome found (λ named. Fits named.place) → Grants (wish_at a found other)
+  of_names : (found other : Option Named) → IfSome found (λ named. Fits named.asker named.wish.want) → Grants (wish_at a found other)
   of_names None (Some named) h = tt
   of_names None None h = tt
-  of_names (Some named) other h = by (same_asker a named.place.asker) h
+  of_names (Some named) other h = by (same_asker a named.asker) h
     where
-      by : (mine : Bool) → (mine ≡ true → P named.place.want)
-          → Grants (if mine then Ok (record { want = named.place.want; driver = named.driver; word = named.word })
-          else Err status.Forbidden)
+      by : (mine : Bool) → (mine ≡ true → P named.wish.want) → Grants (if mine then Ok named.wish else Err status.Forbidden)
       by true h = h refl
       by false h = tt
 
@@ -81,7 +80,7 @@ own_wants text path w e = subst (Grants IsOwn Driver) e (by (method_of text))
     IsOwn : Want → Type 0
     IsOwn want = is_own want ≡ true
 
-    fit : (place : Place) → is_fit place ≡ true → Fits IsOwn Driver place
+    fit : (place : Place) → is_fit place ≡ true → Fits IsOwn Driver place.asker place.want
     fit place is mine = rw mine at is
 
     by : (m : Option Method)

@@ -13,17 +13,17 @@ use Rattle.tacho_state.specs.declared.fault.StoreFault.TheVariants as store
 use Rattle.tacho_sheet.specs.Fault.{fault_of_store}
 use Rattle.tacho_message.specs.Head.{BeginsWith}
 use Rattle.tacho_desk.proofs.WordLemmas.{task_once}
-use Rattle.tacho_desk.specs.Own.{IsHis, OneAnswer, OthersStay, RefusalsStay, SameAnswers}
+use Rattle.tacho_desk.specs.Own.{IsOwnTask, OneAnswer, OthersStay, RefusalsStay, SameAnswers}
 use Rattle.tacho_desk.specs.Tasks.{Does, want_of}
 use Rattle.tacho_desk.specs.Told.{Answer}
-use Rattle.tacho_desk.specs.Words.{IsTask, Wanted}
+use Rattle.tacho_desk.specs.Words.{IsTask, Wanted, Wish}
 use Rattle.tacho_desk.specs.declared.task.Task.{Task}
 use Rattle.tacho_desk.specs.declared.task.Task.TheVariants as task
 use Rattle.tacho_message.specs.Request.{key_of}
 use Rattle.tacho_desk.specs.Wants.{is_own}
 use Rattle.tacho_desk.specs.declared.want.Want.{Want}
 use Rattle.tacho_http.specs.Access.{OwnWants}
-use Rattle.tacho_http.specs.Asked.{Wish, asker_of, wish_of}
+use Rattle.tacho_http.specs.Asked.{asker_of, wish_of}
 use Rattle.tacho_http.specs.declared.places.Asker.TheVariants as asker
 use Rattle.tacho_message.specs.declared.reply.Status.{Status}
 use Rattle.tacho_message.specs.declared.reply.Status.TheVariants as status
@@ -148,7 +148,7 @@ keeps_503 refusals office input s _ _ r e = refl
 
 -- what a driver may ask for makes a task of that driver
 task_is_own : (w : Want) (n : ℕ) (driver word : List ℕ) (t : Task) → is_own w ≡ true → IsTask w (caller.Driver n) driver word (Ok t)
-    → IsHis n t
+    → IsOwnTask n t
 task_is_own w n driver word (task.Import c p) own is = grind arith
 task_is_own w n driver word t own is = grind arith
 
@@ -158,10 +158,10 @@ module _ (own_wants : OwnWants) (office input : List ℕ) (n : ℕ) where
   -- a request with a driver's key comes to one of the driver's own tasks, the same in each state in which the key is the driver's
   comes_to : (s : State) → IsFrom office input n s → (h : RequestHead) (rest : List ℕ) → BeginsWith 8192 32 input h rest
       → (reply : Reply) (after : State) → ByKeys office (key_of h) h rest s reply after
-      → (act : Act) × IfOk act (λ done. IsHis n done.0) × ((s : State) → IsFrom office input n s
+      → (act : Act) × IfOk act (λ done. IsOwnTask n done.0) × ((s : State) → IsFrom office input n s
       → (reply : Reply) (after : State) → ByKeys office (key_of h) h rest s reply after ↔ Acts act s reply after)
   comes_to s from h rest begins reply after does =
-      let comes = wish_comes (IsHis n) office (caller.Driver n) rest s reply after h (wish_of asker.Driver h.method h.target)
+      let comes = wish_comes (IsOwnTask n) office (caller.Driver n) rest s reply after h (wish_of asker.Driver h.method h.target)
       (λ w t found is. task_is_own w.want n w.driver w.word t (own_wants h.method h.target w found) is)
       (rw (from.has h rest begins, from.other, from.own) at does) in (
         comes.act,
@@ -183,7 +183,7 @@ module _ (own_wants : OwnWants) (office input : List ℕ) (n : ℕ) where
 
 module _ (n : ℕ) where
   -- the same reply in both states
-  act_same : SameAnswers → (s other : State) → driver_of n s ≡ driver_of n other → (act : Act) → IfOk act (λ done. IsHis n done.0)
+  act_same : SameAnswers → (s other : State) → driver_of n s ≡ driver_of n other → (act : Act) → IfOk act (λ done. IsOwnTask n done.0)
       → (reply : Reply) (after : State) → Acts act s reply after
       → (left : State) × Acts act other reply left × (driver_of n after ≡ driver_of n left)
   act_same same_answers s other e (Err r) its reply after h = (other, (h.0, refl), ap (driver_of n) h.1 ∙ e)
@@ -191,13 +191,13 @@ module _ (n : ℕ) where
       let x = same_answers n t its body s other e h.0 after h.1 in (x.0, (h.0, x.1, h.2), x.2)
 
   -- no other rows
-  act_others : OthersStay → (m : ℕ) → m ≢ n → (act : Act) → IfOk act (λ done. IsHis n done.0) → (s : State) (reply : Reply) (after : State)
+  act_others : OthersStay → (m : ℕ) → m ≢ n → (act : Act) → IfOk act (λ done. IsOwnTask n done.0) → (s : State) (reply : Reply) (after : State)
       → Acts act s reply after → driver_of m after ≡ driver_of m s
   act_others others_stay m differ (Err r) its s reply after h = ap (driver_of m) h.1
   act_others others_stay m differ (Ok (t, body)) its s reply after h = others_stay n t its body s h.0 after h.1 m differ
 
   -- one reply
-  act_once : OneAnswer → (act : Act) → IfOk act (λ done. IsHis n done.0) → (s : State) (p q : Reply) (after left : State)
+  act_once : OneAnswer → (act : Act) → IfOk act (λ done. IsOwnTask n done.0) → (s : State) (p q : Reply) (after left : State)
       → Acts act s p after → Acts act s q left → (p ≡ q) × (after ≡ left)
   act_once one_answer (Err r) its s p q after left h k = (h.0 ∙ sym k.0, h.1 ∙ sym k.1)
   act_once one_answer (Ok (t, body)) its s p q after left h k =

@@ -8,6 +8,7 @@ use Rattle.tacho_state.specs.declared.fault.StoreFault.TheVariants as store
 use Rattle.tacho_time.specs.declared.fault.TimeFault.TheVariants as time
 use Rattle.tacho_sheet.specs.declared.fault.LeftOut.TheVariants as left_out
 use Rattle.tacho_sheet.specs.declared.fault.SheetFault.TheVariants as sheet
+use Rattle.tacho_sheet.specs.Fault.{card_fault, fault_of_store, sheet_fault}
 use Rattle.tacho_desk.specs.Told.{Added, File, Line, Long}
 use Rattle.tacho_sheet.specs.declared.fault.Fault.TheVariants as fault
 use Rattle.tacho_desk.specs.declared.want.MonthOfAll.TheVariants as all
@@ -39,6 +40,11 @@ archive_refuses = refl
 pub archive_fails : map store_status (store.Store ∷ store.OldSchema ∷ store.Memory ∷ [])
     ≡ replicate 3 status.Unavailable
 archive_fails = refl
+
+-- if a library below ran out of memory
+pub memory_is_out : map fault_status (card_fault card.Memory ∷ sheet_fault sheet.Memory ∷ fault_of_store store.Memory
+    ∷ fault_of_store (store.Card card.Memory) ∷ []) ≡ replicate 4 status.Unavailable
+memory_is_out = refl
 
 -- of bad arguments in a path
 pub words_are_wrong : map fault_status (fault.Number ∷ fault.Part ∷ fault.Time time.Shape ∷ fault.Time time.NoSuchDate ∷ fault.Time time.OutOfRange ∷ [])
@@ -75,12 +81,12 @@ unfolding head_bytes digits
 another_is_forbidden = refl
 
 -- the text of `GET /me/breaches`
-pub breaches_of_his : bytes_of_reply (reply_to (want.Reading reading.Breaches) (Ok (Long (
+pub own_breaches : bytes_of_reply (reply_to (want.Reading reading.Breaches) (Ok (Long (
     codes "B1 Art 7 at 2024-03-04 13:00 since 2024-03-04 08:30 amount 240\n" ++ codes "EXAMINED TO 2024-03-04 17:00 unknown\n"))))
     ≡ codes "HTTP/1.1 200 OK\r\ncontent-type: text/plain; charset=utf-8\r\ncontent-length: 100\r\nconnection: close\r\n\r\n"
     ++ codes "B1 Art 7 at 2024-03-04 13:00 since 2024-03-04 08:30 amount 240\nEXAMINED TO 2024-03-04 17:00 unknown\n"
 unfolding head_bytes digits
-breaches_of_his = refl
+own_breaches = refl
 
 pub file_is_repeated : bytes_of_reply (reply_to want.Import (Ok (Line (codes "repeated driver 17\n"))))
     ≡ codes "HTTP/1.1 200 OK\r\ncontent-type: text/plain; charset=utf-8\r\ncontent-length: 19\r\nconnection: close\r\n\r\nrepeated driver 17\n"
@@ -90,11 +96,11 @@ file_is_repeated = refl
 pub file_was_added : (reply_to want.Import (Ok (Added (codes "added driver 17 number 1\n")))).status ≡ status.Created
 file_was_added = refl
 
-pub file_of_his : reply_to want.File (Ok (File (1 ∷ 2 ∷ []))) ≡ record { status = status.Okay; media = media.Octets; body = 1 ∷ 2 ∷ [] }
-file_of_his = refl
+pub own_file : reply_to want.File (Ok (File (1 ∷ 2 ∷ []))) ≡ record { status = status.Okay; media = media.Octets; body = 1 ∷ 2 ∷ [] }
+own_file = refl
 
-pub row_of_his_form : reply_to (want.Reading reading.Form) (Ok (Long (codes "start\n"))) ≡ record { status = status.Okay; media = media.Csv; body = codes "start\n" }
-row_of_his_form = refl
+pub own_form : reply_to (want.Reading reading.Form) (Ok (Long (codes "start\n"))) ≡ record { status = status.Okay; media = media.Csv; body = codes "start\n" }
+own_form = refl
 
 pub types : map media_of (want.MonthReading month.Chart ∷ want.MonthOfAll all.Overview ∷ want.MonthOfAll all.Incidents ∷ want.Reading reading.Files ∷ want.MonthReading month.Spans ∷ [])
     ≡ media.Svg ∷ media.Csv ∷ media.Csv ∷ media.Text ∷ media.Text ∷ []

@@ -15,9 +15,9 @@ use Rattle.tacho_http.specs.declared.places.Asker.TheVariants.{Driver, Office}
 abbrev Vector : Type 0
 Vector = List ℕ × Option Named
 
--- a place, the part of its path after `/drivers/`, and the last part
+-- who may ask at a path, for what, the part of the path after `/drivers/`, and the last part
 abbrev names : List ℕ → Asker → Want → List ℕ → List ℕ → Vector
-names path a want driver word = (path, Some (record { place = record { asker = a; want = want }; driver = driver; word = word }))
+names path a want driver word = (path, Some (record { asker = a; wish = record { want = want; driver = driver; word = word } }))
 
 abbrev nothing : List ℕ → Vector
 nothing path = (path, None)

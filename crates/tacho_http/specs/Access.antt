@@ -1,8 +1,9 @@
 -- Trusted: What a driver may ask for, and what may be posted.
 use Rattle.std.specs.Prelude.{◌≡◌, ℕ, List, Ok, true}
 use Rattle.tacho_desk.specs.Wants.{is_command, is_own}
+use Rattle.tacho_desk.specs.Words.{Wish}
 use Rattle.tacho_message.specs.Length.{method_of}
-use Rattle.tacho_http.specs.Asked.{Wish, is_post, wish_of}
+use Rattle.tacho_http.specs.Asked.{is_post, wish_of}
 use Rattle.tacho_http.specs.declared.places.Asker.{Asker}
 use Rattle.tacho_http.specs.declared.places.Asker.TheVariants.{Driver}
 

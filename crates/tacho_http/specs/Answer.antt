@@ -12,7 +12,8 @@ use Rattle.tacho_state.specs.State.{State}
 use Rattle.tacho_state.specs.Steps.{owner}
 use Rattle.tacho_state.specs.declared.caller.Caller.{Caller}
 use Rattle.tacho_state.specs.declared.caller.Caller.TheVariants as caller
-use Rattle.tacho_http.specs.Asked.{Wish, asker_of, is_post, wish_of}
+use Rattle.tacho_desk.specs.Words.{Wish}
+use Rattle.tacho_http.specs.Asked.{asker_of, is_post, wish_of}
 use Rattle.tacho_http.specs.Reply.{Reply, bytes_of_reply, reply_of_status, reply_of}
 use Rattle.tacho_http.specs.Serve.{Reacts, Reaction, body_of}
 use Rattle.tacho_http.specs.declared.exchange.IoFault.{IoFault}

@@ -2,7 +2,8 @@
 use Rattle.std.specs.Prelude.{Bool, true, false, List, ℕ, Option, Some, None, Result, Ok, Err, if◌then◌else◌}
 use Rattle.tacho_state.specs.declared.caller.Caller.{Caller}
 use Rattle.tacho_state.specs.declared.caller.Caller.TheVariants as caller
-use Rattle.tacho_desk.specs.declared.want.Want.{Want}
+use Rattle.tacho_desk.specs.Words.{Wish, wish_in}
+use Rattle.tacho_desk.specs.declared.want.Wish.{Wish as WishValue}
 use Rattle.tacho_message.specs.Length.{method_of}
 use Rattle.tacho_message.specs.declared.method.Method.{Method}
 use Rattle.tacho_message.specs.declared.method.Method.TheVariants as method
@@ -11,18 +12,11 @@ use Rattle.tacho_message.specs.declared.reply.Status.TheVariants as status
 use Rattle.tacho_http.specs.Routes.{Named, named_in, routes}
 use Rattle.tacho_http.specs.declared.places.Asker.{Asker}
 use Rattle.tacho_http.specs.declared.places.Asker.TheVariants.{Driver, Office}
-use Rattle.tacho_http.specs.declared.places.Found.{Found}
 
 -- who asks
 abbrev pub asker_of : Caller → Asker
 asker_of caller.Office = Office
 asker_of (caller.Driver n) = Driver
-
--- what is asked for, with the arguments in the path
-pub record Wish : Type 0 where
-  pub want : Want
-  pub driver : List ℕ
-  pub word : List ℕ
 
 -- the place is for this asker
 abbrev pub same_asker : Asker → Asker → Bool
@@ -32,9 +26,7 @@ same_asker a b = false
 
 -- 403, or what is asked for
 abbrev pub wish_granted : Asker → Named → Result Wish Status
-wish_granted a named =
-    if same_asker a named.place.asker then Ok (record { want = named.place.want; driver = named.driver; word = named.word })
-    else Err status.Forbidden
+wish_granted a named = if same_asker a named.asker then Ok named.wish else Err status.Forbidden
 
 -- what the path names for the method; otherwise 405 if it names something for another method, and 404 if it names nothing
 abbrev pub wish_at : Asker → Option Named → Option Named → Result Wish Status
@@ -58,6 +50,6 @@ is_post (Some method.Post) = true
 is_post other = false
 
 -- what the code found
-abbrev pub wish_found : Result Found Status → Result Wish Status
-wish_found (Ok f) = Ok (record { want = f.place.want; driver = f.driver.now; word = f.word.now })
+abbrev pub wish_found : Result WishValue Status → Result Wish Status
+wish_found (Ok w) = Ok (wish_in w)
 wish_found (Err refusal) = Err refusal

@@ -11,6 +11,7 @@ use Rattle.tacho_desk.specs.declared.want.MonthReading.TheVariants.{Chart, Gaps,
 use Rattle.tacho_desk.specs.declared.want.Reading.TheVariants.{Breaches, Debts, Entries, Files, Form, Owed, Stretches}
 use Rattle.tacho_desk.specs.declared.want.Want.{Want}
 use Rattle.tacho_desk.specs.declared.want.Want.TheVariants.{Base, Drivers, Enter, File, Import, Key, MonthOfAll, MonthReading, Reading, Register, Version, Withdraw}
+use Rattle.tacho_desk.specs.Words.{Wish, wish_in}
 use Rattle.tacho_message.specs.declared.method.Method.{Method}
 use Rattle.tacho_message.specs.declared.method.Method.TheVariants as method
 use Rattle.tacho_http.specs.declared.places.Found.{Found}
@@ -132,15 +133,16 @@ last_from part (b ∷ path) = if b == 47 then last_from path path else last_from
 abbrev pub last_part : List ℕ → List ℕ
 last_part path = last_from path path
 
--- the place, the number of a driver, and the other argument (a part of a card file, a number, a day or a month); a task without such an
--- argument ignores it
+-- who may ask at a path, and for what
 pub record Named : Type 0 where
-  pub place : Place
-  pub driver : List ℕ
-  pub word : List ℕ
+  pub asker : Asker
+  pub wish : Wish
 
 abbrev pub named_by : List ℕ → RouteOf Place → Named
-named_by path route = record { place = route.value; driver = driver_part path; word = last_part path }
+named_by path route = record {
+  asker = route.value.asker;
+  wish = record { want = route.value.want; driver = driver_part path; word = last_part path };
+}
 
 abbrev pub named_in : Rows → List ℕ → Option Named
 named_in rows path = option_map (named_by path) (first rows path)
@@ -148,4 +150,4 @@ named_in rows path = option_map (named_by path) (first rows path)
 -- ---- the same in values of the code
 
 abbrev pub named_found : Found → Named
-named_found f = record { place = f.place; driver = f.driver.now; word = f.word.now }
+named_found f = record { asker = f.asker; wish = wish_in f.wish }

@@ -14,7 +14,7 @@ use Rattle.tacho_desk.specs.declared.task.Task.TheVariants as task
 use Rattle.tacho_desk.specs.Tasks.{Does, want_of}
 use Rattle.tacho_desk.specs.Told.{Answer}
 use Rattle.tacho_desk.specs.Wants.{takes_input}
-use Rattle.tacho_desk.specs.Words.{IsTask, Wanted}
+use Rattle.tacho_desk.specs.Words.{IsTask, Wanted, Wish}
 use Rattle.tacho_desk.specs.declared.want.Want.{Want}
 use Rattle.tacho_message.specs.Head.{BeginsWith, IsHeadFault}
 use Rattle.tacho_message.specs.Length.{body_length, method_of}
@@ -22,7 +22,7 @@ use Rattle.tacho_message.specs.Request.{fields_of, key_of}
 use Rattle.tacho_message.specs.declared.head.HeadFault.TheVariants as head
 use Rattle.tacho_message.specs.declared.reply.Status.{Status}
 use Rattle.tacho_message.specs.declared.reply.Status.TheVariants as status
-use Rattle.tacho_http.specs.Asked.{Wish, asker_of, wish_of}
+use Rattle.tacho_http.specs.Asked.{asker_of, wish_of}
 use Rattle.tacho_http.specs.Reply.{Reply, fault_reply, reply_of_status, reply_to}
 
 -- a reply, and the state after it

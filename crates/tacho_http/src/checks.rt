@@ -8,14 +8,15 @@ ghost use Rattle.tacho_message.specs.Length.{method_of};
 ghost use Rattle.tacho_message.specs.Request.{IsRequest, key_of};
 ghost use Rattle.tacho_state.specs.State.{State};
 ghost use Rattle.tacho_desk.specs.Wants.{is_command};
+ghost use Rattle.tacho_desk.specs.Words.{wish_in};
 ghost use Rattle.tacho_http.specs.Answer.{Asks, LacksMore, MayAsk, Responds};
 ghost use Rattle.tacho_http.specs.Asked.{is_post};
 ghost use Rattle.tacho_http.specs.Serve.{ByCaller, ByKey, IsReserved, Runs};
 
-use crate::places::{Found, Routes};
+use crate::places::Routes;
 use crate::response::{Response, fixed, refusal, reply};
 use std::alloc::Global;
-use tacho_desk::{Fault, Task, carry_out, task_of};
+use tacho_desk::{Fault, Task, Wish, carry_out, task_of};
 use tacho_message::{BodyFault, Method, Request, Status, body_length_of, read_body};
 use tacho_sheet::read_key_line;
 use tacho_state::{Caller, Keeper, StoreFault};
@@ -79,18 +80,18 @@ fn by_caller<K: Keeper, R: Source>(
         return Ok(fixed(Status::Unavailable));
     };
     let method = Method::read(request.method);
-    let asked = match routes.find(caller, method, request.path) {
-        Ok(asked) => asked,
+    let wish = match routes.find(caller, method, request.path) {
+        Ok(wish) => wish,
         Err(status) => return Ok(fixed(status)),
     };
-    let takes = asked.place.want.takes_input();
+    let takes = wish.want.takes_input();
     match body_length_of(method, takes, request.buffer, request.fields) {
         Ok(length) => run_task(
             alloc,
             keeper,
             office_key,
             caller,
-            asked,
+            wish,
             length,
             reader,
             request.after_head,
@@ -119,14 +120,14 @@ fn run_task<K: Keeper, R: Source>(
     keeper: &mut K,
     office_key: &[u8],
     caller: Caller,
-    asked: Found<'_>,
+    wish: Wish<'_>,
     count: u64,
     reader: &mut R,
     after_head: &[u8],
 ) -> Result<Response, Failed>
     requires { R.has_failed reader.old ≡ false }
-    ensures responds { Responds K.stands K.is_clean K.is_live K.leaves K.is_same keeper.old keeper.new (is_command asked.entry.place.want) (R.unread reader.old) result
-        (λ left s. Runs office_key.now (record { want = asked.entry.place.want; driver = asked.entry.driver.now; word = asked.entry.word.now }) count caller (after_head.now ++ left) s) }
+    ensures responds { Responds K.stands K.is_clean K.is_live K.leaves K.is_same keeper.old keeper.new (is_command wish.entry.want) (R.unread reader.old) result
+        (λ left s. Runs office_key.now (wish_in wish.entry) count caller (after_head.now ++ left) s) }
     ensures lacks { IsErr result → Lacks after_head.now (R.unread reader.old) (R.unread reader.new) count }
     ensures failed { IsErr result ↔ (R.has_failed reader.new ≡ true) }
 {
@@ -136,14 +137,13 @@ fn run_task<K: Keeper, R: Source>(
         Err(BodyFault::Memory) => return Ok(fixed(Status::Unavailable)),
         Err(BodyFault::Read) => return Err(Failed),
     };
-    let want = asked.place.want;
-    let task = task_of(want, caller, asked.driver, asked.word);
+    let task = task_of(caller, wish);
     match task {
         Ok(task) => {
             if is_reserved(office_key, &task, &body) {
                 return Ok(refusal(Fault::Store(StoreFault::KeyTaken)));
             }
-            Ok(reply(want, carry_out(alloc, keeper, task, &body)))
+            Ok(reply(wish.want, carry_out(alloc, keeper, task, &body)))
         }
         Err(fault) => Ok(refusal(fault)),
     }

@@ -11,7 +11,7 @@ use matchit::{InsertError, Router};
 use memchr::{memchr, memrchr};
 use std::alloc::Global;
 use std::marker::Model;
-use tacho_desk::{Act, Command, Want, command_table};
+use tacho_desk::{Act, Command, Want, Wish, command_table};
 use tacho_message::{Method, Status};
 use tacho_state::Caller;
 
@@ -107,14 +107,12 @@ impl Model for Routes {
     ghost invariant = { λ r. (r.get ≡ routes Get) × (r.post ≡ routes Post) };
 }
 
-/// What a path names: the place, and the arguments in the path. A task without such an argument ignores it.
+/// What a path names: who may ask there, and for what. The driver's number is the part after `/drivers/`, and the other argument is the last
+/// part.
 #[derive(Clone, Copy)]
-pub(crate) struct Found<'p> {
-    pub place: Place,
-    /// The part after `/drivers/`.
-    pub driver: &'p [u8],
-    /// The last part.
-    pub word: &'p [u8],
+struct Found<'p> {
+    asker: Asker,
+    wish: Wish<'p>,
 }
 
 impl Routes {
@@ -132,7 +130,7 @@ impl Routes {
         caller: Caller,
         method: Option<Method>,
         path: &'p str,
-    ) -> Result<Found<'p>, Status>
+    ) -> Result<Wish<'p>, Status>
         ensures { wish_found result ≡ wish_by (asker_of caller) method (named_in (routes Get) path.now) (named_in (routes Post) path.now) }
     {
         let asker = match caller {
@@ -155,11 +153,11 @@ fn asked_at<'p>(
     asker: Asker,
     found: Option<Found<'p>>,
     other: Option<Found<'p>>,
-) -> Result<Found<'p>, Status>
+) -> Result<Wish<'p>, Status>
     ensures { wish_found result ≡ wish_at asker (option_map named_found found.entry) (option_map named_found other.entry) }
 {
     match found {
-        Some(found) if found.place.asker == asker => Ok(found),
+        Some(found) if found.asker == asker => Ok(found.wish),
         Some(_) => Err(Status::Forbidden),
         None if other.is_some() => Err(Status::MethodNotAllowed),
         None => Err(Status::NotFound),
@@ -196,9 +194,12 @@ fn find_in<'p>(router: &Router<Place>, path: &'p str) -> Option<Found<'p>>
 {
     match router.at(path) {
         Ok(found) => Some(Found {
-            place: *found.value,
-            driver: driver_of(path.as_bytes()),
-            word: word_of(path.as_bytes()),
+            asker: found.value.asker,
+            wish: Wish {
+                want: found.value.want,
+                driver: driver_of(path.as_bytes()),
+                word: word_of(path.as_bytes()),
+            },
         }),
         Err(_) => None,
     }

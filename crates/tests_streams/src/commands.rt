@@ -6,7 +6,7 @@ use std::test::Fail;
 use tacho_cli::{
     Asked, DeskJob, Job, Usage, asked_early, card, dump, help_of, help_text, holder, parse,
 };
-use tacho_desk::{MonthOfAll, MonthReading, Reading, Want};
+use tacho_desk::{MonthOfAll, MonthReading, Reading, Want, Wish};
 use tacho_time::{Device, Source};
 
 /// Two days: rest, work and drive on 4 March 2024, and rest on the 5th, whose last word is still open.
@@ -249,198 +249,242 @@ static JOBS: [(&[&str], Job<'static>); 32] = [
         &["tacho", "register", "a.db"],
         Job::AtDesk(DeskJob {
             archive: "a.db",
-            want: Want::Register,
-            driver: "",
-            word: "",
+            wish: Wish {
+                want: Want::Register,
+                driver: b"",
+                word: b"",
+            },
         }),
     ),
     (
         &["tacho", "import", "a.db", "second"],
         Job::AtDesk(DeskJob {
             archive: "a.db",
-            want: Want::Import,
-            driver: "",
-            word: "second",
+            wish: Wish {
+                want: Want::Import,
+                driver: b"",
+                word: b"second",
+            },
         }),
     ),
     (
         &["tacho", "enter", "a.db", "17"],
         Job::AtDesk(DeskJob {
             archive: "a.db",
-            want: Want::Enter,
-            driver: "17",
-            word: "",
+            wish: Wish {
+                want: Want::Enter,
+                driver: b"17",
+                word: b"",
+            },
         }),
     ),
     (
         &["tacho", "withdraw", "a.db", "17", "3"],
         Job::AtDesk(DeskJob {
             archive: "a.db",
-            want: Want::Withdraw,
-            driver: "17",
-            word: "3",
+            wish: Wish {
+                want: Want::Withdraw,
+                driver: b"17",
+                word: b"3",
+            },
         }),
     ),
     (
         &["tacho", "base", "a.db", "17", "2024-03-11"],
         Job::AtDesk(DeskJob {
             archive: "a.db",
-            want: Want::Base,
-            driver: "17",
-            word: "2024-03-11",
+            wish: Wish {
+                want: Want::Base,
+                driver: b"17",
+                word: b"2024-03-11",
+            },
         }),
     ),
     (
         &["tacho", "key", "a.db", "17"],
         Job::AtDesk(DeskJob {
             archive: "a.db",
-            want: Want::Key,
-            driver: "17",
-            word: "",
+            wish: Wish {
+                want: Want::Key,
+                driver: b"17",
+                word: b"",
+            },
         }),
     ),
     (
         &["tacho", "spans", "a.db", "17", "2024-03"],
         Job::AtDesk(DeskJob {
             archive: "a.db",
-            want: Want::MonthReading(MonthReading::Spans),
-            driver: "17",
-            word: "2024-03",
+            wish: Wish {
+                want: Want::MonthReading(MonthReading::Spans),
+                driver: b"17",
+                word: b"2024-03",
+            },
         }),
     ),
     (
         &["tacho", "gaps", "a.db", "17", "2024-03"],
         Job::AtDesk(DeskJob {
             archive: "a.db",
-            want: Want::MonthReading(MonthReading::Gaps),
-            driver: "17",
-            word: "2024-03",
+            wish: Wish {
+                want: Want::MonthReading(MonthReading::Gaps),
+                driver: b"17",
+                word: b"2024-03",
+            },
         }),
     ),
     (
         &["tacho", "sheet", "a.db", "17", "2024-03"],
         Job::AtDesk(DeskJob {
             archive: "a.db",
-            want: Want::MonthReading(MonthReading::Sheet),
-            driver: "17",
-            word: "2024-03",
+            wish: Wish {
+                want: Want::MonthReading(MonthReading::Sheet),
+                driver: b"17",
+                word: b"2024-03",
+            },
         }),
     ),
     (
         &["tacho", "breaches", "a.db", "17"],
         Job::AtDesk(DeskJob {
             archive: "a.db",
-            want: Want::Reading(Reading::Breaches),
-            driver: "17",
-            word: "",
+            wish: Wish {
+                want: Want::Reading(Reading::Breaches),
+                driver: b"17",
+                word: b"",
+            },
         }),
     ),
     (
         &["tacho", "why", "a.db", "17", "2024-03"],
         Job::AtDesk(DeskJob {
             archive: "a.db",
-            want: Want::MonthReading(MonthReading::Why),
-            driver: "17",
-            word: "2024-03",
+            wish: Wish {
+                want: Want::MonthReading(MonthReading::Why),
+                driver: b"17",
+                word: b"2024-03",
+            },
         }),
     ),
     (
         &["tacho", "owed", "a.db", "17"],
         Job::AtDesk(DeskJob {
             archive: "a.db",
-            want: Want::Reading(Reading::Owed),
-            driver: "17",
-            word: "",
+            wish: Wish {
+                want: Want::Reading(Reading::Owed),
+                driver: b"17",
+                word: b"",
+            },
         }),
     ),
     (
         &["tacho", "entries", "a.db", "17"],
         Job::AtDesk(DeskJob {
             archive: "a.db",
-            want: Want::Reading(Reading::Entries),
-            driver: "17",
-            word: "",
+            wish: Wish {
+                want: Want::Reading(Reading::Entries),
+                driver: b"17",
+                word: b"",
+            },
         }),
     ),
     (
         &["tacho", "file", "a.db", "17", "3"],
         Job::AtDesk(DeskJob {
             archive: "a.db",
-            want: Want::File,
-            driver: "17",
-            word: "3",
+            wish: Wish {
+                want: Want::File,
+                driver: b"17",
+                word: b"3",
+            },
         }),
     ),
     (
         &["tacho", "files", "a.db", "17"],
         Job::AtDesk(DeskJob {
             archive: "a.db",
-            want: Want::Reading(Reading::Files),
-            driver: "17",
-            word: "",
+            wish: Wish {
+                want: Want::Reading(Reading::Files),
+                driver: b"17",
+                word: b"",
+            },
         }),
     ),
     (
         &["tacho", "drivers", "a.db"],
         Job::AtDesk(DeskJob {
             archive: "a.db",
-            want: Want::Drivers,
-            driver: "",
-            word: "",
+            wish: Wish {
+                want: Want::Drivers,
+                driver: b"",
+                word: b"",
+            },
         }),
     ),
     (
         &["tacho", "drivers", "a.db", "17"],
         Job::AtDesk(DeskJob {
             archive: "a.db",
-            want: Want::Drivers,
-            driver: "17",
-            word: "",
+            wish: Wish {
+                want: Want::Drivers,
+                driver: b"17",
+                word: b"",
+            },
         }),
     ),
     (
         &["tacho", "stretches", "a.db", "17"],
         Job::AtDesk(DeskJob {
             archive: "a.db",
-            want: Want::Reading(Reading::Stretches),
-            driver: "17",
-            word: "",
+            wish: Wish {
+                want: Want::Reading(Reading::Stretches),
+                driver: b"17",
+                word: b"",
+            },
         }),
     ),
     (
         &["tacho", "debts", "a.db", "17"],
         Job::AtDesk(DeskJob {
             archive: "a.db",
-            want: Want::Reading(Reading::Debts),
-            driver: "17",
-            word: "",
+            wish: Wish {
+                want: Want::Reading(Reading::Debts),
+                driver: b"17",
+                word: b"",
+            },
         }),
     ),
     (
         &["tacho", "form", "a.db", "17"],
         Job::AtDesk(DeskJob {
             archive: "a.db",
-            want: Want::Reading(Reading::Form),
-            driver: "17",
-            word: "",
+            wish: Wish {
+                want: Want::Reading(Reading::Form),
+                driver: b"17",
+                word: b"",
+            },
         }),
     ),
     (
         &["tacho", "overview", "a.db", "2024-03"],
         Job::AtDesk(DeskJob {
             archive: "a.db",
-            want: Want::MonthOfAll(MonthOfAll::Overview),
-            driver: "",
-            word: "2024-03",
+            wish: Wish {
+                want: Want::MonthOfAll(MonthOfAll::Overview),
+                driver: b"",
+                word: b"2024-03",
+            },
         }),
     ),
     (
         &["tacho", "incidents", "a.db", "2024-03"],
         Job::AtDesk(DeskJob {
             archive: "a.db",
-            want: Want::MonthOfAll(MonthOfAll::Incidents),
-            driver: "",
-            word: "2024-03",
+            wish: Wish {
+                want: Want::MonthOfAll(MonthOfAll::Incidents),
+                driver: b"",
+                word: b"2024-03",
+            },
         }),
     ),
     (

@@ -6,7 +6,7 @@ use crate::faulty::Faulty;
 use std::alloc::Global;
 use std::test::Fail;
 use tacho_cli::{DeskJob, Job, perform};
-use tacho_desk::{MonthOfAll, MonthReading, Reading, Want};
+use tacho_desk::{MonthOfAll, MonthReading, Reading, Want, Wish};
 use tacho_shelf::Shelf;
 use tacho_time::{Device, Sink, Source};
 
@@ -18,9 +18,11 @@ pub(crate) static CASES: [Case; 4] = [
     (
         Job::AtDesk(DeskJob {
             archive: "a.db",
-            want: Want::Register,
-            driver: "",
-            word: "",
+            wish: Wish {
+                want: Want::Register,
+                driver: b"",
+                word: b"",
+            },
         }),
         b"driver,holder,key,base,name\n17,0d4431323334353637383930313233,anna-key-1,2024-03-04,Anna Berg\n",
         "registered 17\n",
@@ -29,9 +31,11 @@ pub(crate) static CASES: [Case; 4] = [
     (
         Job::AtDesk(DeskJob {
             archive: "a.db",
-            want: Want::Import,
-            driver: "",
-            word: "both",
+            wish: Wish {
+                want: Want::Import,
+                driver: b"",
+                word: b"both",
+            },
         }),
         b"\x05\x20\x00\x00\x11\x0dD123456789012300\x05\x04\x00\x00\x28\x00\x00\x00\x14\x00\x00\x00\x14\x65\xe5\x0f\x00\x00\x01\x00\x64\x00\x00\x11\xe0\x19\xfe\x23\xfc\x00\x14\x00\x10\x65\xe6\x60\x80\x00\x02\x00\x00\x00\x00\x11\xe0",
         "added driver 17 number 1\n",
@@ -40,9 +44,11 @@ pub(crate) static CASES: [Case; 4] = [
     (
         Job::AtDesk(DeskJob {
             archive: "a.db",
-            want: Want::Enter,
-            driver: "17",
-            word: "",
+            wish: Wish {
+                want: Want::Enter,
+                driver: b"17",
+                word: b"",
+            },
         }),
         b"start,past,activity\n2024-03-06 00:00,2024-03-06 08:00,rest\n",
         "entered 1 to 1\n",
@@ -51,9 +57,11 @@ pub(crate) static CASES: [Case; 4] = [
     (
         Job::AtDesk(DeskJob {
             archive: "a.db",
-            want: Want::Key,
-            driver: "17",
-            word: "",
+            wish: Wish {
+                want: Want::Key,
+                driver: b"17",
+                word: b"",
+            },
         }),
         b"anna-key-2\r\n",
         "key 17\n",
@@ -103,93 +111,123 @@ pub(crate) fn archive_after(alloc: Global, count: usize) -> Result<Shelf, Fail> 
 static WITHOUT_INPUT: [Job<'static>; 15] = [
     Job::AtDesk(DeskJob {
         archive: "a.db",
-        want: Want::Base,
-        driver: "17",
-        word: "2024-03-04",
+        wish: Wish {
+            want: Want::Base,
+            driver: b"17",
+            word: b"2024-03-04",
+        },
     }),
     Job::AtDesk(DeskJob {
         archive: "a.db",
-        want: Want::MonthReading(MonthReading::Spans),
-        driver: "17",
-        word: "2024-03",
+        wish: Wish {
+            want: Want::MonthReading(MonthReading::Spans),
+            driver: b"17",
+            word: b"2024-03",
+        },
     }),
     Job::AtDesk(DeskJob {
         archive: "a.db",
-        want: Want::MonthReading(MonthReading::Gaps),
-        driver: "17",
-        word: "2024-03",
+        wish: Wish {
+            want: Want::MonthReading(MonthReading::Gaps),
+            driver: b"17",
+            word: b"2024-03",
+        },
     }),
     Job::AtDesk(DeskJob {
         archive: "a.db",
-        want: Want::MonthReading(MonthReading::Sheet),
-        driver: "17",
-        word: "2024-03",
+        wish: Wish {
+            want: Want::MonthReading(MonthReading::Sheet),
+            driver: b"17",
+            word: b"2024-03",
+        },
     }),
     Job::AtDesk(DeskJob {
         archive: "a.db",
-        want: Want::Reading(Reading::Breaches),
-        driver: "17",
-        word: "",
+        wish: Wish {
+            want: Want::Reading(Reading::Breaches),
+            driver: b"17",
+            word: b"",
+        },
     }),
     Job::AtDesk(DeskJob {
         archive: "a.db",
-        want: Want::Reading(Reading::Owed),
-        driver: "17",
-        word: "",
+        wish: Wish {
+            want: Want::Reading(Reading::Owed),
+            driver: b"17",
+            word: b"",
+        },
     }),
     Job::AtDesk(DeskJob {
         archive: "a.db",
-        want: Want::Reading(Reading::Entries),
-        driver: "17",
-        word: "",
+        wish: Wish {
+            want: Want::Reading(Reading::Entries),
+            driver: b"17",
+            word: b"",
+        },
     }),
     Job::AtDesk(DeskJob {
         archive: "a.db",
-        want: Want::File,
-        driver: "17",
-        word: "1",
+        wish: Wish {
+            want: Want::File,
+            driver: b"17",
+            word: b"1",
+        },
     }),
     Job::AtDesk(DeskJob {
         archive: "a.db",
-        want: Want::Withdraw,
-        driver: "17",
-        word: "1",
+        wish: Wish {
+            want: Want::Withdraw,
+            driver: b"17",
+            word: b"1",
+        },
     }),
     Job::AtDesk(DeskJob {
         archive: "a.db",
-        want: Want::Drivers,
-        driver: "",
-        word: "",
+        wish: Wish {
+            want: Want::Drivers,
+            driver: b"",
+            word: b"",
+        },
     }),
     Job::AtDesk(DeskJob {
         archive: "a.db",
-        want: Want::Reading(Reading::Stretches),
-        driver: "17",
-        word: "",
+        wish: Wish {
+            want: Want::Reading(Reading::Stretches),
+            driver: b"17",
+            word: b"",
+        },
     }),
     Job::AtDesk(DeskJob {
         archive: "a.db",
-        want: Want::Reading(Reading::Debts),
-        driver: "17",
-        word: "",
+        wish: Wish {
+            want: Want::Reading(Reading::Debts),
+            driver: b"17",
+            word: b"",
+        },
     }),
     Job::AtDesk(DeskJob {
         archive: "a.db",
-        want: Want::Reading(Reading::Form),
-        driver: "17",
-        word: "",
+        wish: Wish {
+            want: Want::Reading(Reading::Form),
+            driver: b"17",
+            word: b"",
+        },
     }),
     Job::AtDesk(DeskJob {
         archive: "a.db",
-        want: Want::MonthOfAll(MonthOfAll::Overview),
-        driver: "",
-        word: "2024-03",
+        wish: Wish {
+            want: Want::MonthOfAll(MonthOfAll::Overview),
+            driver: b"",
+            word: b"2024-03",
+        },
     }),
     Job::AtDesk(DeskJob {
         archive: "a.db",
-        want: Want::MonthOfAll(MonthOfAll::Incidents),
-        driver: "",
-        word: "2024-03",
+        wish: Wish {
+            want: Want::MonthOfAll(MonthOfAll::Incidents),
+            driver: b"",
+            word: b"2024-03",
+        },
     }),
 ];
 
@@ -211,27 +249,33 @@ static WRONG_ARGUMENTS: [(Job<'static>, &str); 3] = [
     (
         Job::AtDesk(DeskJob {
             archive: "a.db",
-            want: Want::Import,
-            driver: "",
-            word: "whole",
+            wish: Wish {
+                want: Want::Import,
+                driver: b"",
+                word: b"whole",
+            },
         }),
         "P1 bad part\n",
     ),
     (
         Job::AtDesk(DeskJob {
             archive: "a.db",
-            want: Want::Enter,
-            driver: "017",
-            word: "",
+            wish: Wish {
+                want: Want::Enter,
+                driver: b"017",
+                word: b"",
+            },
         }),
         "N1 bad number\n",
     ),
     (
         Job::AtDesk(DeskJob {
             archive: "a.db",
-            want: Want::Enter,
-            driver: "1000000",
-            word: "",
+            wish: Wish {
+                want: Want::Enter,
+                driver: b"1000000",
+                word: b"",
+            },
         }),
         "N1 bad number\n",
     ),
@@ -372,9 +416,11 @@ const DRIVERS: &str = "\
 /// The list of all drivers.
 pub(crate) const LIST: Job<'static> = Job::AtDesk(DeskJob {
     archive: "a.db",
-    want: Want::Drivers,
-    driver: "",
-    word: "",
+    wish: Wish {
+        want: Want::Drivers,
+        driver: b"",
+        word: b"",
+    },
 });
 
 #[test]
@@ -385,9 +431,11 @@ fn drivers_are_listed_by_their_numbers(rt: HostRuntime) -> Result<(), Fail> {
     for (want, driver, word, input) in BEFORE_THE_LIST {
         let job = Job::AtDesk(DeskJob {
             archive: "a.db",
-            want,
-            driver,
-            word,
+            wish: Wish {
+                want,
+                driver: driver.as_bytes(),
+                word: word.as_bytes(),
+            },
         });
         let (_, status) = answer(rt.alloc(), &mut shelf, job, input)?;
         assert!(rt; status == 0, "{want:?}");

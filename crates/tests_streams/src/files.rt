@@ -5,7 +5,7 @@ use crate::faulty::Faulty;
 use crate::same::assert_same;
 use std::alloc::Global;
 use std::test::Fail;
-use tacho_cli::{CardFiles, import_files, read_file};
+use tacho_cli::{CardFiles, import_files, read_input};
 use tacho_desk::Fault;
 use tacho_time::Device;
 
@@ -18,8 +18,8 @@ impl CardFiles for Cards {
 
     fn read(&self, alloc: Global, name: &str) -> Result<Vec<u8>, Fault> {
         match name {
-            "anna.ddd" => read_file(alloc, &mut Device::new(CASES[1].1)),
-            "b\n\x7f.ddd" => read_file(alloc, &mut Device::new(b"\x05\x20\x00".as_slice())),
+            "anna.ddd" => read_input(alloc, &mut Device::new(CASES[1].1)),
+            "b\n\x7f.ddd" => read_input(alloc, &mut Device::new(b"\x05\x20\x00".as_slice())),
             _ => Err(Fault::Device),
         }
     }

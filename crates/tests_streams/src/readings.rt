@@ -6,7 +6,7 @@ use std::alloc::Global;
 use std::process::Abort;
 use std::test::Fail;
 use tacho_cli::{DeskJob, Job};
-use tacho_desk::{MonthOfAll, MonthReading, Reading, Want};
+use tacho_desk::{MonthOfAll, MonthReading, Reading, Want, Wish};
 use tacho_shelf::Shelf;
 use tacho_time::Device;
 
@@ -204,9 +204,11 @@ const HOURS: &[u8] = b"start,past,activity\n\
 fn job_of(want: Want, driver: &'static str, word: &'static str) -> Job<'static> {
     Job::AtDesk(DeskJob {
         archive: "a.db",
-        want,
-        driver,
-        word,
+        wish: Wish {
+            want,
+            driver: driver.as_bytes(),
+            word: word.as_bytes(),
+        },
     })
 }
 

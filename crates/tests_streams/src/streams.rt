@@ -10,7 +10,7 @@ use std::alloc::Global;
 use std::process::Abort;
 use std::test::Fail;
 use tacho_cli::{DeskJob, Job};
-use tacho_desk::{Reading, Want};
+use tacho_desk::{Reading, Want, Wish};
 use tacho_http::{IoFault, Served, answer};
 use tacho_shelf::Shelf;
 use tacho_state::Keeper;
@@ -290,9 +290,11 @@ static BEHIND: [Printed; 5] = [
     (
         Job::AtDesk(DeskJob {
             archive: "a.db",
-            want: Want::Reading(Reading::Breaches),
-            driver: "17",
-            word: "",
+            wish: Wish {
+                want: Want::Reading(Reading::Breaches),
+                driver: b"17",
+                word: b"",
+            },
         }),
         b"B1 Art 7 at 2024-03-04 13:00 since 2024-03-04 08:30 amount 240\nEXAMINED TO 2024-03-04 17:00 unknown\n",
         b"B1 Art 7 at 2024-03-04 13:00 since 2024-03-04 08:30 amount 240\nEXAMINED TO 2024-03-04 17:00 unknown\n",
@@ -300,9 +302,11 @@ static BEHIND: [Printed; 5] = [
     (
         Job::AtDesk(DeskJob {
             archive: "a.db",
-            want: Want::Reading(Reading::Entries),
-            driver: "17",
-            word: "",
+            wish: Wish {
+                want: Want::Reading(Reading::Entries),
+                driver: b"17",
+                word: b"",
+            },
         }),
         b"1 2024-03-06 00:00 2024-03-06 08:00 rest kept \"office\" \"\"\n",
         b"1 2024-03-06 00:00 2024-03-06 08:00 rest kept \"office\" \"\"\n",
@@ -310,9 +314,11 @@ static BEHIND: [Printed; 5] = [
     (
         Job::AtDesk(DeskJob {
             archive: "a.db",
-            want: Want::File,
-            driver: "17",
-            word: "1",
+            wish: Wish {
+                want: Want::File,
+                driver: b"17",
+                word: b"1",
+            },
         }),
         b"\x05\x20\x00\x00\x11\x0dD123456789012300\x05\x04\x00\x00\x28\x00\x00\x00\x14\x00\x00\x00\x14\x65\xe5\x0f\x00\x00\x01\x00\x64\x00\x00\x11\xe0\x19\xfe\x23\xfc\x00\x14\x00\x10\x65\xe6\x60\x80\x00\x02\x00\x00\x00\x00\x11\xe0",
         b"\x05\x20\x00\x00\x11\x0dD123456789012300\x05\x04\x00\x00\x28\x00\x00\x00\x14\x00\x00\x00\x14\x65\xe5\x0f\x00\x00\x01\x00\x64\x00\x00\x11\xe0\x19\xfe\x23\xfc\x00\x14\x00\x10\x65\xe6\x60\x80\x00\x02\x00\x00\x00\x00\x11\xe0",
@@ -320,9 +326,11 @@ static BEHIND: [Printed; 5] = [
     (
         Job::AtDesk(DeskJob {
             archive: "a.db",
-            want: Want::Drivers,
-            driver: "",
-            word: "",
+            wish: Wish {
+                want: Want::Drivers,
+                driver: b"",
+                word: b"",
+            },
         }),
         b"17 0d4431323334353637383930313233 2024-03-04 1 1 Anna Berg\n",
         b"17 0d4431323334353637383930313233 2024-03-04 1 1 Anna Berg\n",
@@ -330,9 +338,11 @@ static BEHIND: [Printed; 5] = [
     (
         Job::AtDesk(DeskJob {
             archive: "a.db",
-            want: Want::Withdraw,
-            driver: "17",
-            word: "1",
+            wish: Wish {
+                want: Want::Withdraw,
+                driver: b"17",
+                word: b"1",
+            },
         }),
         b"withdrawn 1\n",
         b"S8 already withdrawn\n",

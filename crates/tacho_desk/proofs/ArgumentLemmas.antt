@@ -1,0 +1,129 @@
+-- The arguments of a task are read as the kinds that the table of commands names.
+use Rattle.std.proofs.Common.{◌≡◌, ◌↔◌, ◌⊎◌, ◌∷◌, ℕ, List, [], Option, None, Some, Result, Ok, Err, ap, arith, inl, inr, map, refl}
+use Rattle.tacho_time.specs.Reading.{day_at, month_at}
+use Rattle.tacho_time.specs.declared.fault.TimeFault.{TimeFault}
+use Rattle.std.specs.List.{AllByRecursion}
+use Rattle.tacho_card.specs.declared.file.Part.{Part}
+use Rattle.tacho_state.specs.declared.caller.Caller.{Caller}
+use Rattle.tacho_state.specs.declared.caller.Caller.TheVariants as caller
+use Rattle.tacho_sheet.specs.Fault.{time_fault}
+use Rattle.tacho_sheet.specs.Number.{HasNoNumber, IsNumberText}
+use Rattle.tacho_sheet.specs.declared.fault.Fault.{Fault}
+use Rattle.tacho_sheet.specs.declared.fault.Fault.TheVariants as fault
+use Rattle.tacho_desk.specs.Arguments.{AreReadAsListed, IsFirstFault, IsReadAsListed}
+use Rattle.tacho_desk.specs.Commands.{Row, all_commands}
+use Rattle.tacho_desk.specs.Words.{ByDriver, ByNumber, HasNoDriver, IsDriver, IsTask, Wanted, by_part, by_time, most_number, part_of}
+use Rattle.tacho_desk.specs.declared.argument.Argument.{Argument}
+use Rattle.tacho_desk.specs.declared.argument.Argument.TheVariants as argument
+use Rattle.tacho_desk.specs.declared.argument.Argument.TheVariants.{AnyDriver, Archive, Date, Driver, Month, Number}
+use Rattle.tacho_desk.specs.declared.table.Act.{Act}
+use Rattle.tacho_desk.specs.declared.table.Act.TheVariants.{AtDesk}
+use Rattle.tacho_desk.specs.declared.task.Task.{Task}
+use Rattle.tacho_desk.specs.declared.task.Task.TheVariants as task
+use Rattle.tacho_desk.specs.declared.want.Want.{Want}
+use Rattle.tacho_desk.specs.declared.want.Want.TheVariants as want
+
+-- the kinds of a task's arguments
+abbrev kinds_of : Want → List Argument
+kinds_of want.Register = []
+kinds_of want.Import = argument.Part ∷ []
+kinds_of want.Enter = Driver ∷ []
+kinds_of want.Withdraw = Driver ∷ Number ∷ []
+kinds_of want.Base = Driver ∷ Date ∷ []
+kinds_of want.Key = Driver ∷ []
+kinds_of (want.Reading text) = Driver ∷ []
+kinds_of (want.MonthReading text) = Driver ∷ Month ∷ []
+kinds_of want.File = Driver ∷ Number ∷ []
+kinds_of want.Drivers = AnyDriver ∷ []
+kinds_of want.Version = []
+kinds_of (want.MonthOfAll text) = Month ∷ []
+
+-- ---- one argument
+
+-- what comes after the archive
+after_archive : {A Rest : Type 0} → A ↔ Rest → A ↔ (⊥ ⊎ (Unit {0} × Rest))
+after_archive both = (λ a. inr (tt, both.0 a), λ x. elim x [ inl none ↦ absurd none | inr more ↦ both.1 more.1 ])
+
+-- a driver's number, and then others
+driver_first : (Is : ℕ → Wanted → Type 0) {Rest : Type 0} (c : Caller) (driver : List ℕ) (f : Fault) → ((n : ℕ) → Is n (Err f) ↔ Rest)
+    → ByDriver c driver Is (Err f) ↔ ((HasNoDriver c driver × (f ≡ fault.Number)) ⊎ (((n : ℕ) × IsDriver c driver n) × Rest))
+driver_first Is {Rest} c driver f both = (to, from)
+  where
+    to : ByDriver c driver Is (Err f) → (HasNoDriver c driver × (f ≡ fault.Number)) ⊎ (((n : ℕ) × IsDriver c driver n) × Rest)
+    to (inl (none, e)) = inl (none, cc)
+    to (inr (n, is, h)) = inr ((n, is), (both n).0 h)
+
+    from : (HasNoDriver c driver × (f ≡ fault.Number)) ⊎ (((n : ℕ) × IsDriver c driver n) × Rest) → ByDriver c driver Is (Err f)
+    from (inl (none, e)) = inl (none, ap Err e)
+    from (inr ((n, is), rest)) = inr (n, is, (both n).1 rest)
+
+-- no argument more
+no_more : (t : Task) (f : Fault) → (Err f ≡ Ok t) ↔ ⊥
+no_more t f = (λ e. cc, λ none. absurd none)
+
+-- the last one: a number, a part, or a day or a month
+number_last : (make : ℕ → Task) (word : List ℕ) (f : Fault) → ByNumber most_number word (λ k w. w ≡ Ok (make k)) (Err f)
+    ↔ ((HasNoNumber most_number word × (f ≡ fault.Number)) ⊎ (((k : ℕ) × IsNumberText most_number word k) × ⊥))
+number_last make word f = grind arith
+
+part_last : (make : Part → Task) (read : Option Part) (f : Fault) → (Err f ≡ by_part read make)
+    ↔ (((read ≡ None) × (f ≡ fault.Part)) ⊎ (((p : Part) × (read ≡ Some p)) × ⊥))
+part_last make None f = grind arith
+part_last make (Some p) f = grind arith
+
+time_last : (make : ℕ → Task) (read : Result ℕ TimeFault) (f : Fault) → (Err f ≡ by_time read (λ n. Ok (make n)))
+    ↔ (((e : TimeFault) × (read ≡ Err e) × (f ≡ time_fault e)) ⊎ (((n : ℕ) × (read ≡ Ok n)) × ⊥))
+time_last make (Ok n) f = grind arith
+time_last make (Err e) f = grind arith
+
+-- ---- all arguments
+
+-- a task is refused with the fault of the first bad one
+refused_first : (w : Want) (driver word : List ℕ) (c : Caller) (f : Fault) → IsTask w c driver word (Err f)
+    ↔ IsFirstFault (Archive ∷ kinds_of w) c (record { want = w; driver = driver; word = word }) f
+refused_first want.Register driver word c f = after_archive (no_more task.Register f)
+refused_first want.Import driver word c f = after_archive (part_last (λ p. task.Import c p) (part_of word) f)
+refused_first want.Enter driver word c f =
+    after_archive (driver_first (λ n w. w ≡ Ok (task.Enter n)) c driver f (λ n. no_more (task.Enter n) f))
+refused_first want.Withdraw driver word c f =
+    after_archive (driver_first (λ n. ByNumber most_number word (λ k w. w ≡ Ok (task.Withdraw n k))) c driver f
+    (λ n. number_last (λ k. task.Withdraw n k) word f))
+refused_first want.Base driver word c f =
+    after_archive (driver_first (λ n w. w ≡ by_time (day_at word) (λ d. Ok (task.Base n d))) c driver f
+    (λ n. time_last (λ d. task.Base n d) (day_at word) f))
+refused_first want.Key driver word c f =
+    after_archive (driver_first (λ n w. w ≡ Ok (task.Key n)) c driver f (λ n. no_more (task.Key n) f))
+refused_first (want.Reading text) driver word c f =
+    after_archive (driver_first (λ n w. w ≡ Ok (task.Reading n text)) c driver f (λ n. no_more (task.Reading n text) f))
+refused_first (want.MonthReading text) driver word c f =
+    after_archive (driver_first (λ n w. w ≡ by_time (month_at word) (λ m. Ok (task.MonthReading n m text))) c driver f
+    (λ n. time_last (λ m. task.MonthReading n m text) (month_at word) f))
+refused_first want.File driver word c f =
+    after_archive (driver_first (λ n. ByNumber most_number word (λ k w. w ≡ Ok (task.File n k))) c driver f
+    (λ n. number_last (λ k. task.File n k) word f))
+refused_first want.Drivers [] word caller.Office f = grind arith
+refused_first want.Drivers driver word c f = grind arith
+refused_first want.Version driver word c f = after_archive (no_more task.Version f)
+refused_first (want.MonthOfAll text) driver word c f = after_archive (time_last (λ m. task.MonthOfAll m text) (month_at word) f)
+
+-- ---- the table
+
+-- the arguments of a row, and the kinds of its task's
+abbrev listed : Act → List Argument → List Argument
+listed (AtDesk w) arguments = arguments
+listed act arguments = []
+
+abbrev kinds : Act → List Argument
+kinds (AtDesk w) = Archive ∷ kinds_of w
+kinds act = []
+
+of_row : (row : Row) → listed row.act row.arguments ≡ kinds row.act → IsReadAsListed row
+of_row row same w is c f = (let here = rw is at same in rw here (refused_first w.want w.driver w.word c f))
+
+of_rows : (rows : List Row) → map (λ row. listed row.act row.arguments) rows ≡ map (λ row. kinds row.act) rows
+    → AllByRecursion IsReadAsListed rows
+of_rows [] same = tt
+of_rows (row ∷ rows) same = (of_row row cc, of_rows rows cc)
+
+pub as_listed : AreReadAsListed
+as_listed = of_rows all_commands refl
