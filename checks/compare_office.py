@@ -20,6 +20,7 @@ from inputs import random_cards
 from inputs.random_commands import hours_csv
 from lib import advice, counting, office_lines, office_rows, pools, programs, rules, seeds
 from lib.advice import without_advice, without_known
+from lib.commands import COMMANDS as TABLE
 from lib.files import TOP, content, read, write
 from lib.office import (
     CHANGES, COMMANDS, READINGS, STORE_FAILED, WITH_ANNA, WITH_DAY, Desk, make_text, name_of, of_refused_file, to_full, to_nobody,
@@ -181,6 +182,32 @@ def of_arguments(program):
                 [program, *words], stdout=FULL.open("wb"), stderr=subprocess.PIPE).returncode, 3
         for words in [["--version"], ["-V"]]:
             yield f"arguments {words}", programs.told_by([program, *words]), (programs.version_lines(), 0, b"")
+
+
+# For each kind of argument of a task a good text, a bad one, and the fault of the bad one, which no other kind has for it.
+KINDS = {
+    "driver": ("17", "0", b"N1 bad number\n"),
+    "number": ("1", "2024-03", b"N1 bad number\n"),
+    "part": ("both", "1", b"P1 bad part\n"),
+    "date": ("2024-03-04", "2024-02-30", b"Z2 no such date\n"),
+    "month": ("2024-03", "2024-13", b"Z2 no such date\n"),
+}
+
+
+def of_kinds(program):
+    """The comparisons of bad arguments: each is read as its name in the table of commands says, from left to right."""
+    with tempfile.TemporaryDirectory() as folder:
+        desk = Desk(program, folder)
+        desk.prepare(WITH_DAY)
+        for command in TABLE.values():
+            first, *names = [name.strip("[]") for name in command.arguments] or [""]
+            if first != "archive" or not KINDS.keys() >= set(names):
+                continue
+            kinds = [KINDS[name] for name in names]
+            for place, (_, _, fault) in enumerate(kinds):
+                words = [command.name, *(good for good, _, _ in kinds[:place]), *(bad for _, bad, _ in kinds[place:])]
+                yield f"bad arguments: {name_of(words)}", desk.run(words), (fault, 1, b"")
+        yield desk.tables("after bad arguments")
 
 
 # Files
@@ -459,8 +486,8 @@ def of_seed(program, seed):
 def comparisons(program: str) -> counting.Comparisons:
     program = os.path.abspath(program)
     questions: list[tuple[Any, ...]] = [(of_rows, program, name) for name in office_rows.ROWS]
-    questions += [(part, program) for part in [of_examples, of_arguments, of_files, of_folders, of_terminals, of_rights, of_outputs, of_inputs,
-                                                 of_cards, of_bits]]
+    questions += [(part, program) for part in [
+        of_examples, of_arguments, of_kinds, of_files, of_folders, of_terminals, of_rights, of_outputs, of_inputs, of_cards, of_bits]]
     questions += [(of_sentences,)]
     questions += [(of_seed, program, seed) for seed in range(SEEDS)]
     yield from pools.of_questions(questions, PROCESSES)
