@@ -1,32 +1,28 @@
 -- A driver's name and report, from the driver's stored row and from what a scan took of their span rows.
-use Rattle.std.proofs.Common.{◌≡◌, ◌∙◌, ◌↔◌, inl, inr, ℕ, suc, ◌*◌, ◌<◌, ◌≤◌, ◌==◌, ◌&&◌, Bool, true, false, cond, List, [], ◌∷◌, ◌++◌, map, filter, Option, None, Some, Ok, refl, sym, ap, subst, arith, add-one}
+use Rattle.std.proofs.Common.{◌≡◌, ◌↔◌, inl, inr, ℕ, suc, ◌*◌, ◌<◌, ◌≤◌, ◌==◌, ◌&&◌, Bool, true, false, cond, List, [], ◌∷◌, ◌++◌, map, filter, Option, None, Some, Ok, refl, sym, ap, subst, arith, add-one}
 use Rattle.std.specs.Prelude.{IfSome, min, string_bytes, nat_lt, nat_le}
-use Rattle.std.specs.Option.{option_map_or}
-use Rattle.std.specs.List.{All, AllByRecursion}
+use Rattle.std.specs.List.{AllByRecursion}
 use Rattle.std.specs.List.Sorted.{IsPermutation, IsSortedBy}
-use Rattle.std.proofs.Math.Path.{fun_ext}
-use Rattle.std.proofs.lemmas.Bool.{cases_lt}
 use Rattle.std.proofs.lemmas.Bool.Decides.{nat_tests}
 use Rattle.std.proofs.lemmas.List.{map-append}
 use Rattle.std.proofs.lemmas.List.Sorted.{IsPermutation-sym, IsPermutation-map}
 use Rattle.sqlite.specs.Tree.{Trees}
-use Rattle.tacho_time.specs.declared.span.Activity.TheVariants.{Rest}
 use Rattle.tacho_time.specs.declared.span.Mark.{Mark}
 use Rattle.tacho_time.specs.declared.span.Span.{Span}
 use Rattle.tacho_time.specs.Spans.{Gives}
 use Rattle.tacho_line.specs.declared.horizon.Cause.{Cause}
 use Rattle.tacho_line.specs.declared.horizon.Cause.TheVariants.{Unknown, Crew}
 use Rattle.tacho_line.specs.declared.horizon.Horizon.{Horizon}
-use Rattle.tacho_line.specs.Line.{mark_at, IsSingle, IsCrew, IsCause, IsHorizon}
+use Rattle.tacho_line.specs.Line.{mark_at, IsCrew, IsCause, IsHorizon}
 use Rattle.tacho_line.proofs.MergeLemmas.{append_gives, front_gives, back_gives}
 use Rattle.tacho_law.specs.Line.{line_of, Joined, IsBase, IsExamined}
-use Rattle.tacho_law.proofs.RunsLemmas.{line_before, line_within, line_past, joined_le}
-use Rattle.tacho_law.proofs.DrivingLemmas.{line_from_past}
+use Rattle.tacho_law.proofs.RunsLemmas.{joined_le}
 use Rattle.tacho_pass.specs.declared.found.Found.{Found}
 use Rattle.tacho_rules.specs.declared.report.Report.{Report}
 use Rattle.tacho_rules.specs.declared.scan.Scan.{Scan}
-use Rattle.tacho_rules.specs.Report.{examined_line, IsReport}
+use Rattle.tacho_rules.specs.Report.{IsReport}
 use Rattle.tacho_rules.specs.Scan.{AreFindings, IsScanOf}
+use Rattle.tacho_rules.proofs.JoinedLemmas.{joined_line, joined_horizon}
 use Rattle.tacho_state.specs.State.{Driver, State, driver_of, held_spans}
 use Rattle.tacho_state.specs.Steps.{reading_of, name_reading, report_reading}
 use Rattle.tacho_state.specs.Reported.{IsDriverReport}
@@ -88,34 +84,6 @@ given_before base from past (s ∷ spans) m k j le g = go (nat_le s.past base) r
           let l : s.past ≤ past = joined_le (cuts base spans) s.past past j.2 in
           let h : m < ends = c.0.1 in omega (arith, l, h)
       go false e j (inr g) more = more s.past j.2 g
-
--- spans that follow one another give each minute from the first to the last
-covered : (spans : List Span) (from past m : ℕ) → Joined spans from past → from ≤ m → m < past
-    → All (λ s. s.mark.crew ≡ false) spans
-    → (k : Mark) × Gives spans m k × (k.crew ≡ false)
-covered [] from past m j above below single = absurd (omega arith)
-covered (s ∷ spans) from past m j above below single = elim (cases_lt m s.past) [
-  | inl lt ↦ let e : s.start ≡ from = j.0 in (s.mark, inl ((omega arith, lt), refl), single 0 s (omega arith))
-  | inr ge ↦
-      let more = covered spans s.past past m j.2 ge below (λ k d within. single (suc k) d (omega arith)) in
-      (more.0, inr more.1, more.2)
-]
-
--- they give no minute before the first
-given_from : (spans : List Span) (from past m : ℕ) (k : Mark) → Joined spans from past → Gives spans m k → from ≤ m
-given_from [] from past m k j g = absurd g
-given_from (s ∷ spans) from past m k j (inl c) =
-    let e : s.start ≡ from = j.0 in let l : s.start ≤ m = c.0.0 in omega arith
-given_from (s ∷ spans) from past m k j (inr g) =
-    let l : s.past ≤ m = given_from spans s.past past m k j.2 g in let f : from < s.past = j.1 in omega arith
-
--- the line of such spans has the activity that they give
-line_given : (spans : List Span) (from past m : ℕ) (k : Mark) → Joined spans from past → Gives spans m k
-    → line_of spans m ≡ k.activity
-line_given [] from past m k j g = absurd g
-line_given (s ∷ spans) from past m k j (inl c) = line_within s spans m c.0.0 c.0.1 ∙ ap (λ (x : Mark). x.activity) c.1
-line_given (s ∷ spans) from past m k j (inr g) =
-    line_past s spans m (given_from spans s.past past m k j.2 g) ∙ line_given spans s.past past m k j.2 g
 
 -- ---- rows ordered by start
 
@@ -198,9 +166,6 @@ module _ (held : List Span) (base : ℕ) (h : Horizon) (taken others : List Span
   abbrev left : List Span
   left = cuts base (map row_span taken)
 
-  from : base ≤ h.minute
-  from = joined_le left base h.minute whole.joined
-
   held_there : (m : ℕ) (k : Mark) → Gives left m k → mark_at held m ≡ Some k
   held_there m k g =
       let c = cuts_given base (map row_span taken) m k g in
@@ -208,36 +173,12 @@ module _ (held : List Span) (base : ℕ) (h : Horizon) (taken others : List Span
 
   -- it is the driver's horizon
   horizon_is : IsHorizon held base h
-  horizon_is = record {
-    from = from;
-    single = λ m w.
-        let c = covered left base h.minute m whole.joined w.0 w.1 whole.single in
-        subst IsSingle (sym (held_there m c.0 c.1)) c.2;
-    cause = cause_is held (map row_span taken) h.minute h.cause others
-        (λ k g. let l : h.minute < h.minute = given_before base base h.minute
-        (map row_span taken) h.minute k whole.joined from g in omega arith)
-        (λ k. gives h.minute k from) rise stops;
-  }
-
-  -- the line of these spans is the examined line
-  as_examined : (m : ℕ) → line_of left m ≡ examined_line held base h.minute m
-  as_examined m = elim (cases_lt m base) [
-    | inl before ↦
-        let e : line_of left m ≡ Rest = line_before left base h.minute m whole.joined before in
-        grind (arith, nat_tests, e)
-    | inr above ↦ elim (cases_lt m h.minute) [
-      | inl within ↦
-          let c = covered left base h.minute m whole.joined above within whole.single in
-          let k = c.0 in
-          let e : line_of left m ≡ k.activity = line_given left base h.minute m k whole.joined c.1 in
-          let f : option_map_or (λ (x : Mark). x.activity) (mark_at held m) Rest ≡ k.activity =
-          ap (λ (o : Option Mark). option_map_or (λ (x : Mark). x.activity) o Rest) (held_there m k c.1) in
-          grind (arith, nat_tests, e, f)
-      | inr behind ↦
-          let e : line_of left m ≡ Rest = line_from_past left base h.minute m whole.joined behind in
-          grind (arith, nat_tests, e)
-    ]
-  ]
+  horizon_is =
+      joined_horizon held left base h.minute whole.joined whole.single held_there h refl
+      (cause_is held (map row_span taken) h.minute h.cause others
+      (λ k g. let l : h.minute < h.minute = given_before base base h.minute
+      (map row_span taken) h.minute k whole.joined (joined_le left base h.minute whole.joined) g in omega arith)
+      (λ k. gives h.minute k (joined_le left base h.minute whole.joined)) rise stops)
 
   -- so what a scan finds from them is the driver's report
   pub report_found : (report : Report) → IsBase base → report.horizon ≡ h
@@ -245,7 +186,7 @@ module _ (held : List Span) (base : ℕ) (h : Horizon) (taken others : List Span
       report.debts.items)
       → IsReport held base report.horizon report.breaches.items report.debts.items
   report_found report monday same finds =
-      let are = subst (λ l. AreFindings l base h.minute report.breaches.items report.debts.items) (fun_ext as_examined)
+      let are = subst (λ l. AreFindings l base h.minute report.breaches.items report.debts.items) (joined_line held left base h.minute whole.joined whole.single held_there)
       (finds (record { base_is = monday; joined = whole.joined; single = whole.single; within = whole.within })) in
       subst (λ (x : Horizon). IsReport held base x report.breaches.items report.debts.items) (sym same) (record {
         is_horizon = horizon_is;

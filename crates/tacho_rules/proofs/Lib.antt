@@ -1,5 +1,6 @@
 pub mod SliceLemmas
 pub mod ReportLemmas
+pub mod JoinedLemmas
 pub mod ScanLemmas
 pub mod FeedingLemmas
 pub mod StayingLemmas

@@ -50,7 +50,7 @@ one_cause (Some mark) Crew Unknown stops stops' = cc
 one_cause mark Crew Crew stops stops' = refl
 
 -- no horizon is later than another one
-no_later : (held : List Span) (base : ℕ) (horizon other : Horizon)
+pub no_later : (held : List Span) (base : ℕ) (horizon other : Horizon)
     → IsHorizon held base horizon → IsHorizon held base other → horizon.minute ≤ other.minute
 no_later held base horizon other h h' = elim (cases_lt other.minute horizon.minute) [
   | inl lt ↦ absurd (not_single (mark_at held other.minute) other.cause h'.cause (h.single other.minute (h'.from, lt)))
@@ -58,7 +58,7 @@ no_later held base horizon other h h' = elim (cases_lt other.minute horizon.minu
 ]
 
 -- held spans have one horizon from a base
-one_horizon : (held : List Span) (base : ℕ) (horizon other : Horizon)
+pub one_horizon : (held : List Span) (base : ℕ) (horizon other : Horizon)
     → IsHorizon held base horizon → IsHorizon held base other → horizon ≡ other
 one_horizon held base horizon other h h' =
     let a : horizon.minute ≤ other.minute = no_later held base horizon other h h' in

@@ -80,8 +80,8 @@ impl Scan {
         Ok(())
     }
 
-    /// Ends the line at its horizon.
-    fn end(self, horizon: Minute, found: &mut Found) -> Result<(), AllocError>
+    /// Ends the line at its horizon, and adds what is found there: then `found` has every breach once, in no order, and every debt.
+    pub fn end(self, horizon: Minute, found: &mut Found) -> Result<(), AllocError>
         requires { IsAt self horizon }
         ensures gathered { OnOk result ((base : ℕ) (spans : List SpanValue) → IsScanOf self found.old base spans
             → IsExamined spans base horizon

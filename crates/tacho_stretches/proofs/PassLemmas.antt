@@ -1,27 +1,22 @@
 -- What a pass over spans represents (specs/Pass).
-use Rattle.std.proofs.Common.{◌≡◌, ℕ, zero, suc, ◌+◌, ◌<◌, ◌≤◌, ◌⊎◌, inl, inr, Bool, true, false, cond, List, [], ◌∷◌, ◌++◌, map, Option, None, Some, Result, Ok, Err, IfOk, OnOk, refl, sym, ap, subst, ◌∙◌, arith}
-use Rattle.std.specs.Option.{option_map_or}
-use Rattle.std.specs.List.{All}
-use Rattle.std.proofs.Math.Path.{fun_ext}
+use Rattle.std.proofs.Common.{◌≡◌, ℕ, zero, suc, ◌+◌, ◌<◌, ◌≤◌, ◌⊎◌, inl, inr, true, false, List, [], ◌∷◌, ◌++◌, map, Option, None, Some, Result, Ok, Err, IfOk, OnOk, refl, sym, ap, subst, ◌∙◌, arith}
 use Rattle.std.proofs.lemmas.Bool.{cases_lt}
 use Rattle.std.proofs.lemmas.Bool.Decides.{nat_tests}
 use Rattle.std.proofs.lemmas.List.{append_assoc, map-append}
 use Rattle.std.proofs.lemmas.List.Elements.{All-append, All-cons, All-nil}
-use Rattle.tacho_time.specs.declared.span.Activity.TheVariants.{Rest}
 use Rattle.tacho_time.specs.declared.span.Mark.{Mark}
 use Rattle.tacho_time.specs.declared.span.Span.{Span}
 use Rattle.tacho_time.specs.Spans.{Gives}
 use Rattle.tacho_line.specs.declared.horizon.Cause.TheVariants.{Crew}
 use Rattle.tacho_line.specs.declared.horizon.Horizon.{Horizon}
-use Rattle.tacho_line.specs.Line.{covers, mark_at, Holds, IsSingle, IsCause, IsHorizon}
+use Rattle.tacho_line.specs.Line.{mark_at, Holds, IsSingle, IsCause, IsHorizon}
 use Rattle.tacho_line.proofs.LineLemmas.{first_holds, rest_holds, none_before, canonical_from}
 use Rattle.tacho_line.proofs.MergeLemmas.{append_gives}
 use Rattle.tacho_law.specs.Line.{line_of, Joined, IsBase, IsExamined}
-use Rattle.tacho_law.proofs.RunsLemmas.{line_before, line_within, line_past, joined_le}
-use Rattle.tacho_law.proofs.DrivingLemmas.{line_from_past}
 use Rattle.tacho_rules.specs.declared.report.Report.{Report}
 use Rattle.tacho_rules.specs.Report.{examined_line, IsReport}
 use Rattle.tacho_rules.specs.Scan.{AreFindings, IsScanOf}
+use Rattle.tacho_rules.proofs.JoinedLemmas.{held_first, held_after, joined_next, joined_line, joined_horizon}
 use Rattle.tacho_stretches.specs.declared.examination.Examination.{Examination}
 use Rattle.tacho_stretches.specs.declared.examination.Examined.{Examined}
 use Rattle.tacho_stretches.specs.declared.pass.StretchPass.{StretchPass}
@@ -34,24 +29,6 @@ use Rattle.tacho_stretches.proofs.StartLemmas.{within, none_single}
 use Rattle.tacho_stretches.proofs.StretchLemmas.{pushed}
 
 -- ---- spans, followed by others
-
--- a held minute keeps its mark
-held_first : (xs ys : List Span) (m : ℕ) (k : Mark) → mark_at xs m ≡ Some k → mark_at (xs ++ ys) m ≡ Some k
-held_first [] ys m k e = absurd (let wrong = e in cc)
-held_first (s ∷ xs) ys m k e = go (covers s m) e (held_first xs ys m k) where
-  go : (b : Bool) → cond b (Some s.mark) (mark_at xs m) ≡ Some k → (mark_at xs m ≡ Some k → mark_at (xs ++ ys) m ≡ Some k)
-      → cond b (Some s.mark) (mark_at (xs ++ ys) m) ≡ Some k
-  go true e more = e
-  go false e more = more e
-
--- a minute that isn't held has the mark that the others give it
-held_after : (xs ys : List Span) (m : ℕ) → mark_at xs m ≡ None → mark_at (xs ++ ys) m ≡ mark_at ys m
-held_after [] ys m e = refl
-held_after (s ∷ xs) ys m e = go (covers s m) e (held_after xs ys m) where
-  go : (b : Bool) → cond b (Some s.mark) (mark_at xs m) ≡ None → (mark_at xs m ≡ None → mark_at (xs ++ ys) m ≡ mark_at ys m)
-      → cond b (Some s.mark) (mark_at (xs ++ ys) m) ≡ mark_at ys m
-  go true e more = absurd (let wrong = e in cc)
-  go false e more = more e
 
 -- a minute that isn't held yet, and is in the next span, is held with it
 given_then : (spans : List Span) (s : Span) (m : ℕ) → mark_at spans m ≡ None → s.start ≤ m → m < s.past
@@ -131,12 +108,6 @@ none_after spans past after ended le m is =
 
 -- ---- an examination
 
--- spans that follow one another, and one more span
-joined_next : (xs : List Span) (s : Span) (from mid : ℕ) → Joined xs from mid → s.start ≡ mid → mid < s.past
-    → Joined (xs ++ s ∷ []) from s.past
-joined_next [] s from mid h e some = (e ∙ sym h, omega (arith, h, some), refl)
-joined_next (x ∷ xs) s from mid h e some = (h.0, h.1, joined_next xs s x.past mid h.2 e some)
-
 -- a new examination represents no spans
 pub none_examined : (e : Examination) → IsBase e.monday → e.minute ≡ e.monday → IsScanOf e.scan e.found e.monday []
     → (spans : List Span) → IsExaminationOf e spans
@@ -188,67 +159,8 @@ gone_on e new spans s part is ended from some single monday minute start past ma
       ∙ ap (λ (x : Mark). Some x) (sym mark ∙ c.1)
   held m k (inr (inr g)) = absurd g
 
--- spans that follow one another give each minute from the first to the last
-covered : (spans : List Span) (from past m : ℕ) → Joined spans from past → from ≤ m → m < past
-    → All (λ s. s.mark.crew ≡ false) spans
-    → (k : Mark) × Gives spans m k × (k.crew ≡ false)
-covered [] from past m j above below single = absurd (omega (arith, j, above, below))
-covered (s ∷ spans) from past m j above below single = elim (cases_lt m s.past) [
-  | inl lt ↦ let e : s.start ≡ from = j.0 in (s.mark, inl ((omega (arith, e, above), lt), refl), single 0 s (omega arith))
-  | inr ge ↦
-      let more = covered spans s.past past m j.2 ge below (λ k d within. single (suc k) d (omega arith)) in
-      (more.0, inr more.1, more.2)
-]
-
--- they give no minute before the first
-given_from : (spans : List Span) (from past m : ℕ) (k : Mark) → Joined spans from past → Gives spans m k → from ≤ m
-given_from [] from past m k j g = absurd g
-given_from (s ∷ spans) from past m k j (inl c) =
-    let e : s.start ≡ from = j.0 in let l : s.start ≤ m = c.0.0 in omega (arith, e, l)
-given_from (s ∷ spans) from past m k j (inr g) =
-    let l : s.past ≤ m = given_from spans s.past past m k j.2 g in let f : from < s.past = j.1 in omega (arith, l, f)
-
--- the line of such spans has the activity that they give
-line_given : (spans : List Span) (from past m : ℕ) (k : Mark) → Joined spans from past → Gives spans m k
-    → line_of spans m ≡ k.activity
-line_given [] from past m k j g = absurd g
-line_given (s ∷ spans) from past m k j (inl c) = line_within s spans m c.0.0 c.0.1 ∙ ap (λ (x : Mark). x.activity) c.1
-line_given (s ∷ spans) from past m k j (inr g) =
-    line_past s spans m (given_from spans s.past past m k j.2 g) ∙ line_given spans s.past past m k j.2 g
-
 -- an examination that ends
 module _ (spans : List Span) (e : Examination) (is : IsExaminationOf e spans) where
-  -- the horizon is the minute that it has reached
-  horizon_is : (h : Horizon) → h.minute ≡ e.minute → IsCause (mark_at spans e.minute) h.cause → IsHorizon spans e.monday h
-  horizon_is h same cause = record {
-    from = (let le = joined_le is.parts e.monday e.minute is.joined in omega (arith, same, le));
-    single = λ m w.
-        let r = w.1 in
-        let c = covered is.parts e.monday e.minute m is.joined w.0 (omega (arith, same, r)) is.single in
-        subst IsSingle (sym (is.held m c.0 c.1)) c.2;
-    cause = subst (λ (m : ℕ). IsCause (mark_at spans m) h.cause) (sym same) cause;
-  }
-
-  -- the line of the spans that its scan was fed is the examined line
-  as_examined : (m : ℕ) → line_of is.parts m ≡ examined_line spans e.monday e.minute m
-  as_examined m = elim (cases_lt m e.monday) [
-    | inl before ↦
-        let f : line_of is.parts m ≡ Rest = line_before is.parts e.monday e.minute m is.joined before in
-        grind (arith, nat_tests, f)
-    | inr above ↦ elim (cases_lt m e.minute) [
-      | inl below ↦
-          let c = covered is.parts e.monday e.minute m is.joined above below is.single in
-          let k = c.0 in
-          let f : line_of is.parts m ≡ k.activity = line_given is.parts e.monday e.minute m k is.joined c.1 in
-          let g : option_map_or (λ (x : Mark). x.activity) (mark_at spans m) Rest ≡ k.activity =
-          ap (λ (o : Option Mark). option_map_or (λ (x : Mark). x.activity) o Rest) (is.held m k c.1) in
-          grind (arith, nat_tests, f, g)
-      | inr behind ↦
-          let f : line_of is.parts m ≡ Rest = line_from_past is.parts e.monday e.minute m is.joined behind in
-          grind (arith, nat_tests, f)
-    ]
-  ]
-
   -- so what the scan finds is the report
   pub report_found : (report : Report) (h : Horizon) → e.minute ≤ 68374080 → h.minute ≡ e.minute
       → IsCause (mark_at spans e.minute) h.cause → report.horizon ≡ h
@@ -256,13 +168,13 @@ module _ (spans : List Span) (e : Examination) (is : IsExaminationOf e spans) wh
       → AreFindings (line_of parts) base e.minute report.breaches.items report.debts.items)
       → IsReport spans e.monday report.horizon report.breaches.items report.debts.items
   report_found report h early at cause same finds =
-      let are = subst (λ l. AreFindings l e.monday e.minute report.breaches.items report.debts.items) (fun_ext as_examined)
+      let are = subst (λ l. AreFindings l e.monday e.minute report.breaches.items report.debts.items) (joined_line spans is.parts e.monday e.minute is.joined is.single is.held)
       (finds e.monday is.parts is.scanned
       (record { base_is = is.is_base; joined = is.joined; single = is.single; within = early })) in
       let are' = subst (λ (m : ℕ). AreFindings (examined_line spans e.monday m) e.monday m report.breaches.items report.debts.items)
       (sym at ∙ ap (λ (x : Horizon). x.minute) (sym same)) are in
       record {
-        is_horizon = subst (λ (x : Horizon). IsHorizon spans e.monday x) (sym same) (horizon_is h at cause);
+        is_horizon = subst (λ (x : Horizon). IsHorizon spans e.monday x) (sym same) (joined_horizon spans is.parts e.monday e.minute is.joined is.single is.held h at cause);
         runs = are'.runs;
         breaks = are'.breaks;
         are_runs = are'.are_runs;
