@@ -1,0 +1,9 @@
+pub mod FedLemmas
+pub mod PlanLemmas
+pub mod LimitLemmas
+pub mod SearchLemmas
+pub mod EndedLemmas
+pub mod UsedLemmas
+pub mod TodayLemmas
+pub mod MarkLemmas
+pub mod OneLemmas
