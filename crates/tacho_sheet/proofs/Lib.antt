@@ -18,6 +18,7 @@ pub mod FilledTextLemmas
 pub mod ChartLemmas
 mod PageFacts
 pub mod EvidenceLemmas
+pub mod AheadLemmas
 pub mod WhyLemmas
 pub mod WhyLawLemmas
 mod FaultLemmas

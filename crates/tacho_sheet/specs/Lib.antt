@@ -17,5 +17,6 @@ pub mod Form
 pub mod Chart
 pub mod Seen
 pub mod Evidence
+pub mod Ahead
 pub mod Why
 pub mod Written

@@ -60,8 +60,8 @@ impl fmt::Display for DateOf {
 
 /// A length in hours and minutes.
 #[derive(Clone, Copy)]
-struct Length {
-    minutes: u32,
+pub(crate) struct Length {
+    pub(crate) minutes: u32,
 }
 
 impl fmt::Display for Length {

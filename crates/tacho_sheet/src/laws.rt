@@ -13,6 +13,7 @@ ghost use Rattle.tacho_stretches.specs.Stretches.{AreAll, Judged};
 ghost use Rattle.tacho_sheet.specs.Reports.{columns, count_from, kind_name, column_minutes, AgreeIn, IsGapText, IsMonthSheet, IsSpanCsv};
 ghost use Rattle.tacho_sheet.specs.Months.{article, is_examined, kind_code, AreIncidentRows, IsOverviewRow};
 ghost use Rattle.tacho_sheet.specs.Chart.{AreDayGroups, AreUnseen, HasDayGroup, IsMonthChart, ShowsMinute};
+ghost use Rattle.tacho_sheet.specs.Ahead.{IsAheadText, IsTooLate};
 ghost use Rattle.tacho_sheet.specs.Why.{IsMonthWhy};
 ghost use Rattle.tacho_time.specs.Spans.{IsCanonicalOf};
 ghost use Rattle.tacho_sheet.specs.Form.{AreRows as AreFormRows, Fills, filled_form, IsForm};
@@ -150,6 +151,14 @@ pub fn a_chart_shows_each_minute()
 pub fn one_why_of_a_month()
     ensures { (held : List SpanValue) (end month : ℕ) (stretches : List Judged) (a b : List ℕ) → AreAll held end stretches
         → IsMonthWhy held stretches month a → IsMonthWhy held stretches month b → a ≡ b }
+{}
+
+/// A driver's forecast has one text. There is none if it would go past 2099.
+pub fn one_ahead_text()
+    ensures one { (held : List SpanValue) (stretches : List Judged) (minute : ℕ) (a b : List ℕ) → IsAheadText held stretches minute a
+        → IsAheadText held stretches minute b → a ≡ b }
+    ensures in_time { (held : List SpanValue) (stretches : List Judged) (minute : ℕ) (text : List ℕ)
+        → IsAheadText held stretches minute text → ¬ (IsTooLate stretches minute) }
 {}
 
 /// Once the hours that fill in each row of a form are entered, no gap remains.

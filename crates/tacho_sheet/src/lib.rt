@@ -1,6 +1,7 @@
 //! Reading CSV, and writing texts and the lines of faults.
 #![tactic(auto)]
 
+mod ahead;
 mod amounts;
 mod chart;
 mod done;
@@ -22,6 +23,7 @@ mod text;
 mod why;
 mod words;
 
+pub use ahead::ahead_text;
 pub use chart::month_chart;
 pub use done::{
     DoneLine, base_line, entered_line, imported_line, key_line, registered_line, withdrawn_line,

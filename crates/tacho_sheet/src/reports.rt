@@ -13,9 +13,7 @@ pub fn breach_text(alloc: Global, report: &Report) -> Result<String, AllocError>
     ensures { IfOk result (λ text. string_bytes text ≡ text_of_breaches report.now.breaches.items report.now.horizon) }
 {
     let mut text = String::new(alloc);
-    for breach in &report.breaches {
-        push_breach(&mut text, breach)?;
-    }
+    push_breaches(&mut text, &report.breaches)?;
     push_horizon(&mut text, report.horizon)?;
     Ok(text)
 }
@@ -26,9 +24,7 @@ pub fn owed_text(alloc: Global, report: &Report) -> Result<String, AllocError>
     ensures { IfOk result (λ text. string_bytes text ≡ text_of_debts report.now.debts.items report.now.horizon) }
 {
     let mut text = String::new(alloc);
-    for debt in &report.debts {
-        push_debt(&mut text, debt, report.horizon.minute)?;
-    }
+    push_debts(&mut text, &report.debts, report.horizon.minute)?;
     push_horizon(&mut text, report.horizon)?;
     Ok(text)
 }
@@ -74,6 +70,16 @@ fn csv_lines(alloc: Global, spans: &[Span]) -> Result<String, AllocError>
     Ok(text)
 }
 
+/// Appends the lines of breaches.
+pub(crate) fn push_breaches(text: &mut String, breaches: &[Breach]) -> Result<(), AllocError>
+    ensures { OnOk result (string_bytes text.new ≡ string_bytes text.old ++ flat_map breach_line breaches.now) }
+{
+    for breach in breaches {
+        push_breach(text, breach)?;
+    }
+    Ok(())
+}
+
 /// Appends the line of a breach.
 pub(crate) fn push_breach(text: &mut String, breach: &Breach) -> Result<(), AllocError>
     ensures { OnOk result (string_bytes text.new ≡ string_bytes text.old ++ breach_line breach.now) }
@@ -92,6 +98,20 @@ pub(crate) fn push_horizon(text: &mut String, horizon: Horizon) -> Result<(), Al
     let minute = horizon.minute;
     let cause = name_of_cause(horizon.cause);
     writeln!(text, "EXAMINED TO {minute} {cause}")
+}
+
+/// Appends the lines of debts. `horizon` is the first minute that isn't examined.
+pub(crate) fn push_debts(
+    text: &mut String,
+    debts: &[Debt],
+    horizon: Minute,
+) -> Result<(), AllocError>
+    ensures { OnOk result (string_bytes text.new ≡ string_bytes text.old ++ flat_map (debt_line horizon) debts.now) }
+{
+    for debt in debts {
+        push_debt(text, debt, horizon)?;
+    }
+    Ok(())
 }
 
 /// Appends the line of a debt. `horizon` is the first minute that isn't examined.

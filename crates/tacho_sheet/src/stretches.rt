@@ -33,7 +33,11 @@ pub fn debt_text(alloc: Global, stretches: &[Stretch]) -> Result<String, AllocEr
 }
 
 /// Appends a stretch: its Monday, the text of its report, and what isn't examined after it.
-fn push_block(text: &mut String, stretch: &Stretch, report: &str) -> Result<(), AllocError>
+pub(crate) fn push_block(
+    text: &mut String,
+    stretch: &Stretch,
+    report: &str,
+) -> Result<(), AllocError>
     ensures { OnOk result (string_bytes text.new ≡ string_bytes text.old ++ block report.now (judged_of stretch.now)) }
 {
     text.push_str("FROM ")?;
