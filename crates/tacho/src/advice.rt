@@ -20,7 +20,7 @@ pub const LOST: &str =
 /// The sentence for a fault. docs/FORMATS.md lists them, 'All lines of faults'.
 pub fn advice_on(fault: Fault) -> &'static str {
     match fault {
-        Fault::Time(_) => "dates are written as 2024-03-04, months as 2024-03",
+        Fault::Time(_) => "dates are written as 2024-03-04, months as 2024-03, times as 09:00",
         Fault::Card(_) => NO_CARD,
         Fault::Store(fault) => advice_on_store(fault),
         Fault::Sheet(_) => "nothing of this input was taken: correct it and give it again",

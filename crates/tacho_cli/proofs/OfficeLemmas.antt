@@ -16,7 +16,7 @@ use Rattle.tacho_desk.specs.Doing.{AsksOnly, Serves}
 use Rattle.tacho_sheet.specs.Fault.{IsFailure, card_fault, sheet_fault}
 use Rattle.tacho_desk.specs.Tasks.{Does, IsFaulty, IsSound, want_of}
 use Rattle.tacho_desk.specs.Told.{Answer}
-use Rattle.tacho_desk.specs.Wants.{is_command, takes_input}
+use Rattle.tacho_desk.specs.Wants.{is_command, looks_ahead, takes_input}
 use Rattle.tacho_desk.specs.Words.{IsTask, Wish, by_part, by_time}
 use Rattle.tacho_sheet.specs.declared.fault.Fault.{Fault}
 use Rattle.tacho_sheet.specs.declared.fault.Fault.TheVariants as fault
@@ -41,10 +41,10 @@ time_without make (Ok n) e = cc
 time_without make (Err f) e = cc
 
 -- nor the other arguments
-words_without : (w : Want) (c : Caller) (driver word : List ℕ) → IsTask w c driver word (Err fault.Device) → ⊥
-words_without want.Import c driver word is = grind (arith, part_without)
-words_without want.Drivers caller.Office [] word is = cc
-words_without w c driver word is = grind (arith, time_without)
+words_without : (w : Want) (c : Caller) (driver word time : List ℕ) → IsTask w c driver word time (Err fault.Device) → ⊥
+words_without want.Import c driver word time is = grind (arith, part_without)
+words_without want.Drivers caller.Office [] word time is = cc
+words_without w c driver word time is = grind (arith, time_without)
 
 -- nor is a card file
 card_without : (e : CardFault) → fault.Device ≡ card_fault e → ⊥
@@ -71,19 +71,20 @@ over_without true t input (inr (within, h)) = (faulty_takes t input fault.Device
 over_without false t input h = h
 
 -- a call that asks the archive only for a valid input does so where that implies another input to be valid
-asks_as : {K : Type 0} (old new : K) (Sound AlsoSound : Type 0) (Faulty AlsoFaulty : Fault → Type 0) (answer : Answer) → (Sound → AlsoSound)
-    → ((f : Fault) → Faulty f → AlsoFaulty f) → AsksOnly old new Sound Faulty answer → AsksOnly old new AlsoSound AlsoFaulty answer
-asks_as old new Sound AlsoSound Faulty AlsoFaulty answer sound faulty (inl (is, archive)) = inl (sound is, archive)
-asks_as old new Sound AlsoSound Faulty AlsoFaulty (Ok told) sound faulty (inr (same, h)) = absurd h
-asks_as old new Sound AlsoSound Faulty AlsoFaulty (Err f) sound faulty (inr (same, inl h)) = inr (same, inl (faulty f h))
-asks_as old new Sound AlsoSound Faulty AlsoFaulty (Err f) sound faulty (inr (same, inr memory)) = inr (same, inr memory)
+asks_as : {K : Type 0} (old new : K) (forecast : Bool) (Sound AlsoSound : Type 0) (Faulty AlsoFaulty : Fault → Type 0) (answer : Answer) → (Sound → AlsoSound)
+    → ((f : Fault) → Faulty f → AlsoFaulty f) → AsksOnly old new forecast Sound Faulty answer
+    → AsksOnly old new forecast AlsoSound AlsoFaulty answer
+asks_as old new forecast Sound AlsoSound Faulty AlsoFaulty answer sound faulty (inl (is, archive)) = inl (sound is, archive)
+asks_as old new forecast Sound AlsoSound Faulty AlsoFaulty (Ok told) sound faulty (inr (same, h)) = absurd h
+asks_as old new forecast Sound AlsoSound Faulty AlsoFaulty (Err f) sound faulty (inr (same, inl h)) = inr (same, inl (faulty f h))
+asks_as old new forecast Sound AlsoSound Faulty AlsoFaulty (Err f) sound faulty (inr (same, inr memory)) = inr (same, inr memory)
 
 -- so X2 is no answer
 never_device : {K : Type 0} (old new : K) (w : Wish) (input : List ℕ)
-    → AsksOnly old new (AreSound w input) (AreArgumentsFaulty w input) (Err fault.Device) → ⊥
+    → AsksOnly old new (looks_ahead w.want) (AreSound w input) (AreArgumentsFaulty w input) (Err fault.Device) → ⊥
 never_device old new w input (inl (sound, archive)) = archive
 never_device old new w input (inr (same, inr memory)) = cc
-never_device old new w input (inr (same, inl (Err f, is, e))) = words_without w.want caller.Office w.driver w.word (rw (← e) at is)
+never_device old new w input (inr (same, inl (Err f, is, e))) = words_without w.want caller.Office w.driver w.word w.time (rw (← e) at is)
 never_device old new w input (inr (same, inl (Ok t, is, h))) = over_without (takes_input w.want) t input h
 
 -- a job at an archive, by its arguments and by whether the reader failed
@@ -92,7 +93,7 @@ module _ {w : Wish} {unread : Option (List ℕ)} {failed : Bool} {K : Type 0} {s
   -- the input was read, or is not needed
   performed_by : {old new : K} {answer : Answer} (input : List ℕ) → IfSome unread (λ all. input ≡ all) → (failed ≡ true → ⊥)
       → Serves stands is_clean is_live leaves is_same old new (is_command w.want) answer (Performs w input)
-      → AsksOnly old new (AreSound w input) (AreArgumentsFaulty w input) answer
+      → AsksOnly old new (looks_ahead w.want) (AreSound w input) (AreArgumentsFaulty w input) answer
       → Performed stands is_clean is_live leaves is_same old new w unread failed answer
   performed_by {old} {new} input whole sound serves asks = record {
     input = input;
@@ -124,14 +125,15 @@ module _ {w : Wish} {unread : Option (List ℕ)} {failed : Bool} {K : Type 0} {s
   pub without_input : {old new : K} {answer : Answer} (t : Task) → failed ≡ false → OfficeWants w (Ok t)
       → want_of t ≡ w.want → takes_input w.want ≡ false
       → Serves stands is_clean is_live leaves is_same old new (is_command (want_of t)) answer (Does t [])
-      → AsksOnly old new (IsSound t []) (IsFaulty t []) answer
+      → AsksOnly old new (looks_ahead (want_of t)) (IsSound t []) (IsFaulty t []) answer
       → Performed stands is_clean is_live leaves is_same old new w unread failed answer
   without_input {old} {new} {answer} t sound is same none d asks =
       let i = any_input unread in
       performed_by i.input i.told (λ e. cc)
       (served_as stands is_clean is_live leaves is_same old new (is_command w.want) answer (Does t []) (Performs w i.input)
       (λ s told after does. (Ok t, is, rw none does)) (rw same at d))
-      (asks_as old new _ _ _ _ answer (λ valid. (t, is, rw none valid)) (λ f h. absurd (let takes = (faulty_takes t [] f h).0 in cc)) asks)
+      (asks_as old new (looks_ahead w.want) _ _ _ _ answer (λ valid. (t, is, rw none valid))
+      (λ f h. absurd (let takes = (faulty_takes t [] f h).0 in cc)) (rw same at asks))
 
   -- an input that was not read
   pub unread_input : IsSameAsItself is_same → (keeper : K) (t : Task) (f : Fault) → OfficeWants w (Ok t)
@@ -160,11 +162,11 @@ module _ {w : Wish} {unread : Option (List ℕ)} {failed : Bool} {K : Type 0} {s
   pub over_input : {old new : K} {answer : Answer} (t : Task) (input : List ℕ) → OfficeWants w (Ok t) → want_of t ≡ w.want
       → takes_input w.want ≡ true → HasRead unread failed input
       → Serves stands is_clean is_live leaves is_same old new (is_command (want_of t)) answer (Does t input)
-      → AsksOnly old new (IsSound t input) (IsFaulty t input) answer
+      → AsksOnly old new (looks_ahead (want_of t)) (IsSound t input) (IsFaulty t input) answer
       → Performed stands is_clean is_live leaves is_same old new w unread failed answer
   over_input {old} {new} {answer} t input is same one h d asks =
       performed_by input h.whole h.sound
       (served_as stands is_clean is_live leaves is_same old new (is_command w.want) answer (Does t input) (Performs w input)
       (λ s told after does. (Ok t, is, rw one (inr (h.within, does)))) (rw same at d))
-      (asks_as old new _ _ _ _ answer (λ valid. (t, is, rw one (h.within, valid)))
-      (λ f wrong. (Ok t, is, rw one (inr (h.within, wrong)))) asks)
+      (asks_as old new (looks_ahead w.want) _ _ _ _ answer (λ valid. (t, is, rw one (h.within, valid)))
+      (λ f wrong. (Ok t, is, rw one (inr (h.within, wrong)))) (rw same at asks))

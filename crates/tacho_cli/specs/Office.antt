@@ -5,7 +5,7 @@ use Rattle.tacho_state.specs.declared.caller.Caller.TheVariants as caller
 use Rattle.tacho_desk.specs.Doing.{AsksOnly, Doing, Refuses, Serves}
 use Rattle.tacho_desk.specs.Tasks.{Does, IsFaulty, IsSound}
 use Rattle.tacho_desk.specs.Told.{Answer, bytes_of}
-use Rattle.tacho_desk.specs.Wants.{is_command, takes_input}
+use Rattle.tacho_desk.specs.Wants.{is_command, looks_ahead, takes_input}
 use Rattle.tacho_desk.specs.Words.{IsTask, Wanted, Wish, wish_in}
 use Rattle.tacho_sheet.specs.declared.fault.Fault.{Fault}
 use Rattle.tacho_sheet.specs.declared.fault.Fault.TheVariants as fault
@@ -33,7 +33,7 @@ DoesTask takes (Ok t) input s = DoesOver takes t input s
 
 -- the task that the office asks for, or the fault of its arguments, read from left to right
 abbrev pub OfficeWants : Wish → Wanted → Type 0
-OfficeWants w wanted = IsTask w.want caller.Office w.driver w.word wanted
+OfficeWants w wanted = IsTask w.want caller.Office w.driver w.word w.time wanted
 
 -- what the office asks for is done, after its input is read
 abbrev pub Performs : Wish → List ℕ → State → Doing
@@ -87,7 +87,7 @@ pub record Performed {K : Type 0} (stands : K → State → Type 0) (is_clean is
   pub device : failed ≡ true → (answer ≡ Err fault.Device) × (new ≡ old)
   pub serves : failed ≡ false → Serves stands is_clean is_live leaves is_same old new (is_command w.want) answer (Performs w input)
   pub x2 : answer ≡ Err fault.Device → failed ≡ true
-  pub asks : failed ≡ false → AsksOnly old new (AreSound w input) (AreArgumentsFaulty w input) answer
+  pub asks : failed ≡ false → AsksOnly old new (looks_ahead w.want) (AreSound w input) (AreArgumentsFaulty w input) answer
 
 -- the reply to an answer
 abbrev pub reply_of_answer : Answer → Reply

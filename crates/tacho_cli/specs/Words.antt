@@ -73,7 +73,7 @@ abbrev pub or_empty : Option Text → Text
 or_empty None = []
 or_empty (Some text) = text
 
--- the driver's number; below, the other argument: a part, a number, a date or a month
+-- the driver's number; below, the other argument: a part, a number, a date or a month; and the time after a date
 abbrev pub driver_text : List Row → Text
 driver_text rows = or_empty (option_or (first_of (codes "DRIVER") rows) (first_of (codes "[DRIVER]") rows))
 
@@ -81,6 +81,9 @@ abbrev pub other_text : List Row → Text
 other_text rows =
     or_empty (option_or (option_or (first_of (codes "PART") rows) (first_of (codes "NUMBER") rows))
     (option_or (first_of (codes "DATE") rows) (first_of (codes "MONTH") rows)))
+
+abbrev pub time_text : List Row → Text
+time_text rows = or_empty (first_of (codes "TIME") rows)
 
 -- the job of a subcommand, with the arguments in these rows
 abbrev pub IsJobOf : Act → List Row → Job → Type 0
@@ -92,7 +95,7 @@ IsJobOf act.Migrate rows (job.Migrate archive) = IsWord rows (codes "ARCHIVE") a
 IsJobOf act.Check rows (job.Check archive) = IsWord rows (codes "ARCHIVE") archive.now
 IsJobOf (act.AtDesk w) rows (job.AtDesk j) =
     IsWord rows (codes "ARCHIVE") j.archive.now
-    × (wish_in j.wish ≡ record { want = w; driver = driver_text rows; word = other_text rows })
+    × (wish_in j.wish ≡ record { want = w; driver = driver_text rows; word = other_text rows; time = time_text rows })
 IsJobOf act.Serve rows (job.Serve archive key port count) =
     IsWord rows (codes "ARCHIVE") archive.now × IsWord rows (codes "KEY") key.now
     × IsNumbered rows (codes "PORT") 65535 port × IsNumbered rows (codes "COUNT") 1000000 count

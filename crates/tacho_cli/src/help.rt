@@ -143,6 +143,8 @@ fn meaning_of(argument: Argument) -> &'static str {
         }
         Argument::Date => "A Monday, as 2024-03-04",
         Argument::Month => "A month, as 2024-03",
+        Argument::DateOfTime => "A day, as 2024-03-07",
+        Argument::Time => "The time of that day in UTC, as 12:00",
         Argument::Key => "The office's key: 8 to 64 letters, digits and hyphens",
         Argument::Port => "The port on 127.0.0.1, 1 to 65535",
         Argument::Count => "The number of connections to answer, 1 to 1000000",

@@ -130,12 +130,14 @@ fn job_of<'a>(act: Act, words: &ArgMatches<'a>) -> Result<Job<'a>, Usage>
         Act::Check => Ok(Job::Check { archive: archive? }),
         Act::AtDesk(want) => {
             let driver = text_of(words, "DRIVER").or(text_of(words, "[DRIVER]"));
+            let time = text_of(words, "TIME");
             Ok(Job::AtDesk(DeskJob {
                 archive: archive?,
                 wish: Wish {
                     want,
                     driver: driver.unwrap_or("").as_bytes(),
                     word: other_of(words).as_bytes(),
+                    time: time.unwrap_or("").as_bytes(),
                 },
             }))
         }

@@ -1,6 +1,6 @@
 -- The arguments of a task are read as the kinds that the table of commands names.
 use Rattle.std.proofs.Common.{◌≡◌, ◌↔◌, ◌⊎◌, ◌∷◌, ℕ, List, [], Option, None, Some, Result, Ok, Err, ap, arith, inl, inr, map, refl}
-use Rattle.tacho_time.specs.Reading.{day_at, month_at}
+use Rattle.tacho_time.specs.Reading.{day_at, minute_at, month_at}
 use Rattle.tacho_time.specs.declared.fault.TimeFault.{TimeFault}
 use Rattle.std.specs.List.{AllByRecursion}
 use Rattle.tacho_card.specs.declared.file.Part.{Part}
@@ -12,10 +12,10 @@ use Rattle.tacho_sheet.specs.declared.fault.Fault.{Fault}
 use Rattle.tacho_sheet.specs.declared.fault.Fault.TheVariants as fault
 use Rattle.tacho_desk.specs.Arguments.{AreReadAsListed, IsFirstFault, IsReadAsListed}
 use Rattle.tacho_desk.specs.Commands.{Row, all_commands}
-use Rattle.tacho_desk.specs.Words.{ByDriver, ByNumber, HasNoDriver, IsDriver, IsTask, Wanted, by_part, by_time, most_number, part_of}
+use Rattle.tacho_desk.specs.Words.{ByDriver, ByNumber, HasNoDriver, IsDriver, IsTask, Wanted, by_part, by_time, minute_text_of, most_number, part_of}
 use Rattle.tacho_desk.specs.declared.argument.Argument.{Argument}
 use Rattle.tacho_desk.specs.declared.argument.Argument.TheVariants as argument
-use Rattle.tacho_desk.specs.declared.argument.Argument.TheVariants.{AnyDriver, Archive, Date, Driver, Month, Number}
+use Rattle.tacho_desk.specs.declared.argument.Argument.TheVariants.{AnyDriver, Archive, Date, DateOfTime, Driver, Month, Number, Time}
 use Rattle.tacho_desk.specs.declared.table.Act.{Act}
 use Rattle.tacho_desk.specs.declared.table.Act.TheVariants.{AtDesk}
 use Rattle.tacho_desk.specs.declared.task.Task.{Task}
@@ -36,6 +36,7 @@ kinds_of (want.MonthReading text) = Driver ∷ Month ∷ []
 kinds_of want.File = Driver ∷ Number ∷ []
 kinds_of want.Drivers = AnyDriver ∷ []
 kinds_of want.Version = []
+kinds_of want.Ahead = Driver ∷ DateOfTime ∷ Time ∷ []
 kinds_of (want.MonthOfAll text) = Month ∷ []
 
 -- ---- one argument
@@ -61,7 +62,7 @@ driver_first Is {Rest} c driver f both = (to, from)
 no_more : (t : Task) (f : Fault) → (Err f ≡ Ok t) ↔ ⊥
 no_more t f = (λ e. cc, λ none. absurd none)
 
--- the last one: a number, a part, or a day or a month
+-- the last one: a number, a part, or a day, a month or a time
 number_last : (make : ℕ → Task) (word : List ℕ) (f : Fault) → ByNumber most_number word (λ k w. w ≡ Ok (make k)) (Err f)
     ↔ ((HasNoNumber most_number word × (f ≡ fault.Number)) ⊎ (((k : ℕ) × IsNumberText most_number word k) × ⊥))
 number_last make word f = grind arith
@@ -79,32 +80,35 @@ time_last make (Err e) f = grind arith
 -- ---- all arguments
 
 -- a task is refused with the fault of the first bad one
-refused_first : (w : Want) (driver word : List ℕ) (c : Caller) (f : Fault) → IsTask w c driver word (Err f)
-    ↔ IsFirstFault (Archive ∷ kinds_of w) c (record { want = w; driver = driver; word = word }) f
-refused_first want.Register driver word c f = after_archive (no_more task.Register f)
-refused_first want.Import driver word c f = after_archive (part_last (λ p. task.Import c p) (part_of word) f)
-refused_first want.Enter driver word c f =
+refused_first : (w : Want) (driver word time : List ℕ) (c : Caller) (f : Fault) → IsTask w c driver word time (Err f)
+    ↔ IsFirstFault (Archive ∷ kinds_of w) c (record { want = w; driver = driver; word = word; time = time }) f
+refused_first want.Register driver word time c f = after_archive (no_more task.Register f)
+refused_first want.Import driver word time c f = after_archive (part_last (λ p. task.Import c p) (part_of word) f)
+refused_first want.Enter driver word time c f =
     after_archive (driver_first (λ n w. w ≡ Ok (task.Enter n)) c driver f (λ n. no_more (task.Enter n) f))
-refused_first want.Withdraw driver word c f =
+refused_first want.Withdraw driver word time c f =
     after_archive (driver_first (λ n. ByNumber most_number word (λ k w. w ≡ Ok (task.Withdraw n k))) c driver f
     (λ n. number_last (λ k. task.Withdraw n k) word f))
-refused_first want.Base driver word c f =
+refused_first want.Base driver word time c f =
     after_archive (driver_first (λ n w. w ≡ by_time (day_at word) (λ d. Ok (task.Base n d))) c driver f
     (λ n. time_last (λ d. task.Base n d) (day_at word) f))
-refused_first want.Key driver word c f =
+refused_first want.Key driver word time c f =
     after_archive (driver_first (λ n w. w ≡ Ok (task.Key n)) c driver f (λ n. no_more (task.Key n) f))
-refused_first (want.Reading text) driver word c f =
+refused_first (want.Reading text) driver word time c f =
     after_archive (driver_first (λ n w. w ≡ Ok (task.Reading n text)) c driver f (λ n. no_more (task.Reading n text) f))
-refused_first (want.MonthReading text) driver word c f =
+refused_first (want.MonthReading text) driver word time c f =
     after_archive (driver_first (λ n w. w ≡ by_time (month_at word) (λ m. Ok (task.MonthReading n m text))) c driver f
     (λ n. time_last (λ m. task.MonthReading n m text) (month_at word) f))
-refused_first want.File driver word c f =
+refused_first want.File driver word time c f =
     after_archive (driver_first (λ n. ByNumber most_number word (λ k w. w ≡ Ok (task.File n k))) c driver f
     (λ n. number_last (λ k. task.File n k) word f))
-refused_first want.Drivers [] word caller.Office f = grind arith
-refused_first want.Drivers driver word c f = grind arith
-refused_first want.Version driver word c f = after_archive (no_more task.Version f)
-refused_first (want.MonthOfAll text) driver word c f = after_archive (time_last (λ m. task.MonthOfAll m text) (month_at word) f)
+refused_first want.Drivers [] word time caller.Office f = grind arith
+refused_first want.Drivers driver word time c f = grind arith
+refused_first want.Version driver word time c f = after_archive (no_more task.Version f)
+refused_first (want.MonthOfAll text) driver word time c f = after_archive (time_last (λ m. task.MonthOfAll m text) (month_at word) f)
+refused_first want.Ahead driver word time c f =
+    after_archive (driver_first (λ n w. w ≡ by_time (minute_at (minute_text_of word time)) (λ m. Ok (task.Ahead n m))) c driver f
+    (λ n. after_archive (time_last (λ m. task.Ahead n m) (minute_at (minute_text_of word time)) f)))
 
 -- ---- the table
 
@@ -118,7 +122,7 @@ kinds (AtDesk w) = Archive ∷ kinds_of w
 kinds act = []
 
 of_row : (row : Row) → listed row.act row.arguments ≡ kinds row.act → IsReadAsListed row
-of_row row same w is c f = (let here = rw is at same in rw here (refused_first w.want w.driver w.word c f))
+of_row row same w is c f = (let here = rw is at same in rw here (refused_first w.want w.driver w.word w.time c f))
 
 of_rows : (rows : List Row) → map (λ row. listed row.act row.arguments) rows ≡ map (λ row. kinds row.act) rows
     → AllByRecursion IsReadAsListed rows

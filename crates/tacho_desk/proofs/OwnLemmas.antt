@@ -1,5 +1,5 @@
 -- Why a refusal changes nothing, and why a driver's own tasks depend on their rows alone.
-use Rattle.std.proofs.Common.{◌≡◌, ◌≢◌, ◌⊎◌, ◌∙◌, ◌*◌, ℕ, List, [], ◌∷◌, Option, Some, Result, Ok, Err}
+use Rattle.std.proofs.Common.{◌≡◌, ◌≢◌, ◌⊎◌, ◌∙◌, ◌*◌, ℕ, List, [], ◌∷◌, Option, None, Some, Result, Ok, Err}
 use Rattle.std.proofs.Common.{inl, inr, false, refl, sym, ap, subst, arith}
 use Rattle.tacho_card.specs.declared.fault.CardFault.{CardFault}
 use Rattle.tacho_card.specs.declared.file.Part.{Part}
@@ -19,15 +19,16 @@ use Rattle.tacho_sheet.specs.Form.{IsForm}
 use Rattle.tacho_sheet.specs.Stretches.{debt_text, stretch_text}
 use Rattle.tacho_sheet.specs.Chart.{IsMonthChart}
 use Rattle.tacho_sheet.specs.Reports.{IsGapText, IsMonthSheet, IsSpanCsv, breach_text, owed_text}
+use Rattle.tacho_sheet.specs.Ahead.{IsAheadText, IsTooLate}
 use Rattle.tacho_sheet.specs.Why.{IsMonthWhy}
 use Rattle.tacho_desk.specs.declared.want.MonthReading.{MonthReading}
 use Rattle.tacho_desk.specs.declared.want.MonthReading.TheVariants as month
 use Rattle.tacho_desk.specs.declared.want.Reading.{Reading}
 use Rattle.tacho_desk.specs.declared.want.Reading.TheVariants as reading
 use Rattle.tacho_desk.specs.Own.{IsOwnTask, OneAnswer, OthersStay, SameAnswers}
-use Rattle.tacho_desk.specs.Tasks.{Does, IsFormOf, OfReport, OfStretches, ShowsMonth, ShowsReading, imported_told, want_of}
+use Rattle.tacho_desk.specs.Tasks.{Does, IsAheadOf, IsForecastOf, IsFormOf, OfReport, OfStretches, ShowsMonth, ShowsReading, imported_told, want_of}
 use Rattle.tacho_desk.specs.Wants.{is_command}
-use Rattle.tacho_desk.specs.Told.{Answer}
+use Rattle.tacho_desk.specs.Told.{Answer, Long}
 use Rattle.tacho_desk.specs.declared.task.Task.{Task}
 use Rattle.tacho_desk.specs.declared.task.Task.TheVariants as task
 
@@ -123,7 +124,11 @@ module _ (one_content : (p : Part) (bytes : List ℕ) (a b : Result Content Card
     (one_chart : (number : ℕ) (name : List ℕ) (line : List Span) (stretches : List Judged) (month : ℕ) (a b : List ℕ)
     → IsMonthChart number name line stretches month a → IsMonthChart number name line stretches month b → a ≡ b)
     (one_why : (held : List Span) (end month : ℕ) (stretches : List Judged) (a b : List ℕ) → AreAll held end stretches
-    → IsMonthWhy held stretches month a → IsMonthWhy held stretches month b → a ≡ b) where
+    → IsMonthWhy held stretches month a → IsMonthWhy held stretches month b → a ≡ b)
+    (one_ahead : (held : List Span) (stretches : List Judged) (minute : ℕ) (a b : List ℕ) → IsAheadText held stretches minute a
+    → IsAheadText held stretches minute b → a ≡ b)
+    (in_time : (held : List Span) (stretches : List Judged) (minute : ℕ) (text : List ℕ) → IsAheadText held stretches minute text
+    → ¬ (IsTooLate stretches minute)) where
   -- a text of a report is unique, since the report is
   one_of_report : (Is : Driver → List Breach → List Debt → Horizon → List ℕ → Type 0)
       → ((d : Driver) (breaches : List Breach) (debts : List Debt) (horizon : Horizon) → IsOneText (Is d breaches debts horizon))
@@ -181,10 +186,27 @@ module _ (one_content : (p : Part) (bytes : List ℕ) (a b : Result Content Card
       (λ d stretches. one_chart n d.name (held_spans d) stretches m)) _ a b h.0 k.0
   one_month month.Why m n s a b after left h k = one_text_of _ (one_why_of m) _ a b h.0 k.0
 
+  -- the forecast of stretches is unique, and there is none that would go past 2099
+  one_forecast : (minute : ℕ) (d : Driver) (stretches : List Judged) (a b : Answer) → IsForecastOf minute d stretches a
+      → IsForecastOf minute d stretches b → a ≡ b
+  one_forecast minute d stretches (Ok (Long a)) (Ok (Long b)) h k =
+      ap (λ text. Ok (Long text)) (one_ahead (held_spans d) stretches minute a b h k)
+  one_forecast minute d stretches (Ok (Long a)) (Err f) h k = absurd (in_time (held_spans d) stretches minute a h k.1)
+  one_forecast minute d stretches (Err e) (Ok (Long b)) h k = absurd (in_time (held_spans d) stretches minute b k h.1)
+  one_forecast minute d stretches a b h k = grind arith
+
+  -- so is that for a driver, since the stretches are
+  one_ahead_of : (minute : ℕ) (o : Option Driver) (a b : Answer) → IsAheadOf minute o a → IsAheadOf minute o b → a ≡ b
+  one_ahead_of minute None a b h k = h ∙ sym k
+  one_ahead_of minute (Some d) a b h k =
+      let same : k.0 ≡ h.0 = one_stretches (held_spans d) (1440 * d.base) k.0 h.0 k.1 h.1 in
+      one_forecast minute d h.0 a b h.2 (rw (← same) k.2)
+
   -- each of a driver's own tasks has one answer
   pub one_answer : OneAnswer
   one_answer n t theirs input s a b after left h k =
       let reading = λ (text : Reading) (n : ℕ). one_reading text n s a b after left in
       let of_month = λ (text : MonthReading) (month n : ℕ). one_month text month n s a b after left in
+      let forecast = λ (minute n : ℕ). one_ahead_of minute (driver_of n s) a b in
       let content = λ (p : Part). one_content p input in
       grind arith

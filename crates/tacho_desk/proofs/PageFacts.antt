@@ -6,32 +6,33 @@ use Rattle.tacho_state.specs.declared.caller.Caller.TheVariants as caller
 use Rattle.tacho_state.specs.declared.fault.StoreFault.TheVariants as store
 use Rattle.tacho_sheet.specs.Fault.{fault_of_store}
 use Rattle.tacho_desk.specs.Wants.{is_command, is_own, takes_input}
-use Rattle.tacho_desk.specs.Words.{by_part, part_of}
+use Rattle.tacho_desk.specs.Words.{by_part, minute_text_of, part_of}
 use Rattle.tacho_sheet.specs.declared.fault.Fault.TheVariants as fault
 use Rattle.tacho_desk.specs.declared.task.Task.TheVariants as task
 use Rattle.tacho_desk.specs.declared.want.MonthReading.TheVariants as month
 use Rattle.tacho_desk.specs.declared.want.Reading.TheVariants as reading
 use Rattle.tacho_desk.specs.declared.want.Want.{Want}
-use Rattle.tacho_desk.specs.declared.want.Want.TheVariants.{Base, Drivers, Enter, File, Import, Key, MonthReading, Reading, Register, Withdraw}
+use Rattle.tacho_desk.specs.declared.want.Want.TheVariants.{Ahead, Base, Drivers, Enter, File, Import, Key, MonthReading, Reading, Register, Withdraw}
 
 -- ---- all kinds of tasks
 
 abbrev all_wants : List Want
 all_wants = Register ∷ Import ∷ Enter ∷ Withdraw ∷ Base ∷ Key ∷ (Reading reading.Breaches) ∷ (Reading reading.Owed) ∷ (Reading reading.Entries)
-    ∷ (MonthReading month.Spans) ∷ (MonthReading month.Gaps) ∷ (MonthReading month.Sheet) ∷ File ∷ Drivers ∷ []
+    ∷ (MonthReading month.Spans) ∷ (MonthReading month.Gaps) ∷ (MonthReading month.Sheet) ∷ File ∷ Drivers ∷ Ahead ∷ []
 
 -- whether each has an input
 pub inputs : map takes_input all_wants
-    ≡ true ∷ true ∷ true ∷ false ∷ false ∷ true ∷ false ∷ false ∷ false ∷ false ∷ false ∷ false ∷ false ∷ false ∷ []
+    ≡ true ∷ true ∷ true ∷ false ∷ false ∷ true ∷ false ∷ false ∷ false ∷ false ∷ false ∷ false ∷ false ∷ false ∷ false ∷ []
 inputs = refl
 
 -- whether each changes the archive
 pub commands : map is_command all_wants
-    ≡ true ∷ true ∷ true ∷ true ∷ true ∷ true ∷ false ∷ false ∷ false ∷ false ∷ false ∷ false ∷ false ∷ false ∷ []
+    ≡ true ∷ true ∷ true ∷ true ∷ true ∷ true ∷ false ∷ false ∷ false ∷ false ∷ false ∷ false ∷ false ∷ false ∷ false ∷ []
 commands = refl
 
 -- whether each is a driver's own
-pub own : map is_own all_wants ≡ false ∷ true ∷ false ∷ false ∷ false ∷ false ∷ true ∷ true ∷ true ∷ true ∷ true ∷ true ∷ true ∷ true ∷ []
+pub own : map is_own all_wants
+    ≡ false ∷ true ∷ false ∷ false ∷ false ∷ false ∷ true ∷ true ∷ true ∷ true ∷ true ∷ true ∷ true ∷ true ∷ true ∷ []
 own = refl
 
 -- ---- arguments
@@ -47,6 +48,10 @@ second = refl
 
 pub capital : by_part (part_of (codes "Both")) (λ p. task.Import (caller.Driver 17) p) ≡ Err fault.Part
 capital = refl
+
+-- a day and a time are read as one text
+pub day_and_time : minute_text_of (codes "2024-03-04") (codes "12:00") ≡ codes "2024-03-04 12:00"
+day_and_time = refl
 
 -- ---- faults
 

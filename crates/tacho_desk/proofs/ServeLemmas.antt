@@ -1,5 +1,5 @@
 -- What the functions for tasks do, derived from what their parts did.
-use Rattle.std.proofs.Common.{◌≡◌, ◌⊎◌, inl, inr, ℕ, true, List, Result, Ok, Err, arith, rules}
+use Rattle.std.proofs.Common.{◌≡◌, ◌⊎◌, inl, inr, ℕ, false, true, List, Result, Ok, Err, arith, rules}
 use Rattle.std.specs.Prelude.{IsErrAnd}
 use Rattle.tacho_card.specs.declared.fault.CardFault.{CardFault}
 use Rattle.tacho_state.specs.Acts.{Acts, IsOfNoFile}
@@ -63,7 +63,7 @@ module _ {K A : Type 0} {old new : K} {result : Result A StoreFault} (Is : Resul
   -- a card file with a fault doesn't access the archive, and only such a file is answered with a file's fault
   abbrev pub AsksFile : Answer → Type 0
   AsksFile =
-      AsksOnly old new ((content : Content) × Is (Ok content)) (λ f. (g : CardFault) × Is (Err g) × (f ≡ card_fault g))
+      AsksOnly old new false ((content : Content) × Is (Ok content)) (λ f. (g : CardFault) × Is (Err g) × (f ≡ card_fault g))
 
   pub import_asks : (words : A → Told) (answer : Answer) (content : Result Content CardFault) → Is content → answer ≡ in_words words result
       → AsksFile answer

@@ -25,18 +25,20 @@ of_number : (c : Caller) (driver word : List ℕ) (f : ℕ → ℕ → Wanted) (
     → ByDriver c driver (λ n. ByNumber most_number word (λ k w. w ≡ f n k)) b → a ≡ b
 of_number c driver word f a b x y = grind (arith, one_number)
 
-pub task_once : (w : Want) (c : Caller) (driver word : List ℕ) (a b : Wanted) → IsTask w c driver word a → IsTask w c driver word b → a ≡ b
-task_once want.Register c driver word a b x y = x ∙ sym y
-task_once want.Import c driver word a b x y = x ∙ sym y
-task_once want.Enter c driver word a b x y = of_driver c driver _ a b x y
-task_once want.Withdraw c driver word a b x y = of_number c driver word _ a b x y
-task_once want.Base c driver word a b x y = of_driver c driver _ a b x y
-task_once want.Key c driver word a b x y = of_driver c driver _ a b x y
-task_once (want.Reading text) c driver word a b x y = of_driver c driver _ a b x y
-task_once (want.MonthReading text) c driver word a b x y = of_driver c driver _ a b x y
-task_once want.File c driver word a b x y = of_number c driver word _ a b x y
-task_once want.Drivers caller.Office [] word a b x y = x ∙ sym y
-task_once want.Drivers caller.Office (digit ∷ driver) word a b x y = of_driver caller.Office (digit ∷ driver) _ a b x y
-task_once want.Drivers (caller.Driver n) driver word a b x y = of_driver (caller.Driver n) driver _ a b x y
-task_once want.Version c driver word a b x y = x ∙ sym y
-task_once (want.MonthOfAll text) c driver word a b x y = x ∙ sym y
+pub task_once : (w : Want) (c : Caller) (driver word time : List ℕ) (a b : Wanted) → IsTask w c driver word time a
+    → IsTask w c driver word time b → a ≡ b
+task_once want.Register c driver word time a b x y = x ∙ sym y
+task_once want.Import c driver word time a b x y = x ∙ sym y
+task_once want.Enter c driver word time a b x y = of_driver c driver _ a b x y
+task_once want.Withdraw c driver word time a b x y = of_number c driver word _ a b x y
+task_once want.Base c driver word time a b x y = of_driver c driver _ a b x y
+task_once want.Key c driver word time a b x y = of_driver c driver _ a b x y
+task_once (want.Reading text) c driver word time a b x y = of_driver c driver _ a b x y
+task_once (want.MonthReading text) c driver word time a b x y = of_driver c driver _ a b x y
+task_once want.File c driver word time a b x y = of_number c driver word _ a b x y
+task_once want.Drivers caller.Office [] word time a b x y = x ∙ sym y
+task_once want.Drivers caller.Office (digit ∷ driver) word time a b x y = of_driver caller.Office (digit ∷ driver) _ a b x y
+task_once want.Drivers (caller.Driver n) driver word time a b x y = of_driver (caller.Driver n) driver _ a b x y
+task_once want.Version c driver word time a b x y = x ∙ sym y
+task_once (want.MonthOfAll text) c driver word time a b x y = x ∙ sym y
+task_once want.Ahead c driver word time a b x y = of_driver c driver _ a b x y

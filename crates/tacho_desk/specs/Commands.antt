@@ -2,7 +2,7 @@
 use Rattle.std.specs.Prelude.{ℕ, List, [], ◌∷◌, codes, map}
 use Rattle.tacho_desk.specs.declared.argument.Argument.{Argument}
 use Rattle.tacho_desk.specs.declared.argument.Argument.TheVariants as argument
-use Rattle.tacho_desk.specs.declared.argument.Argument.TheVariants.{AnyDriver, Archive, Count, Date, Driver, Month, Number, Part, Port}
+use Rattle.tacho_desk.specs.declared.argument.Argument.TheVariants.{AnyDriver, Archive, Count, Date, DateOfTime, Driver, Month, Number, Part, Port, Time}
 use Rattle.tacho_desk.specs.declared.table.Act.{Act}
 use Rattle.tacho_desk.specs.declared.table.Act.TheVariants.{AtDesk, Card, Check, Dump, Holder, Init, Listen, Migrate, Serve, Version}
 use Rattle.tacho_desk.specs.declared.table.Command.{Command}
@@ -10,6 +10,7 @@ use Rattle.tacho_desk.specs.declared.want.MonthOfAll.TheVariants.{Incidents, Ove
 use Rattle.tacho_desk.specs.declared.want.MonthReading.TheVariants.{Chart, Gaps, Sheet, Spans, Why}
 use Rattle.tacho_desk.specs.declared.want.Reading.TheVariants.{Breaches, Debts, Entries, Files, Form, Owed, Stretches}
 use Rattle.tacho_desk.specs.declared.want.Want.TheVariants.{
+  Ahead,
   Base,
   Drivers,
   Enter,
@@ -32,6 +33,8 @@ name_of AnyDriver = codes "[DRIVER]"
 name_of Number = codes "NUMBER"
 name_of Date = codes "DATE"
 name_of Month = codes "MONTH"
+name_of DateOfTime = codes "DATE"
+name_of Time = codes "TIME"
 name_of argument.Key = codes "KEY"
 name_of Port = codes "PORT"
 name_of Count = codes "COUNT"
@@ -87,6 +90,8 @@ all_commands =
     ∷ row (codes "stretches") (Archive ∷ Driver ∷ []) (AtDesk (Reading Stretches))
     (codes "/drivers/{driver}/stretches" ∷ codes "/me/stretches" ∷ [])
     ∷ row (codes "debts") (Archive ∷ Driver ∷ []) (AtDesk (Reading Debts)) (codes "/drivers/{driver}/debts" ∷ codes "/me/debts" ∷ [])
+    ∷ row (codes "ahead") (Archive ∷ Driver ∷ DateOfTime ∷ Time ∷ []) (AtDesk Ahead)
+    (codes "/drivers/{driver}/ahead/{word}/{time}" ∷ codes "/me/ahead/{word}/{time}" ∷ [])
     ∷ row (codes "overview") (Archive ∷ Month ∷ []) (AtDesk (MonthOfAll Overview)) (codes "/overview/{word}" ∷ [])
     ∷ row (codes "incidents") (Archive ∷ Month ∷ []) (AtDesk (MonthOfAll Incidents)) (codes "/incidents/{word}" ∷ [])
     ∷ row (codes "form") (Archive ∷ Driver ∷ []) (AtDesk (Reading Form)) (codes "/drivers/{driver}/form" ∷ codes "/me/form" ∷ [])

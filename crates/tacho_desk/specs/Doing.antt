@@ -6,6 +6,7 @@ use Rattle.tacho_state.specs.State.{Driver, State, driver_of}
 use Rattle.tacho_state.specs.Steps.{Turn}
 use Rattle.tacho_sheet.specs.declared.fault.Fault.{Fault}
 use Rattle.tacho_sheet.specs.declared.fault.Fault.TheVariants as fault
+use Rattle.tacho_time.specs.declared.fault.TimeFault.TheVariants as time
 use Rattle.tacho_sheet.specs.Fault.{IsFailure, fault_of_store}
 use Rattle.tacho_desk.specs.Told.{Answer, Told, Long}
 
@@ -107,15 +108,17 @@ abbrev pub IsUnread : (Fault → Type 0) → Answer → Type 0
 IsUnread IsFaulty (Ok told) = ⊥
 IsUnread IsFaulty (Err f) = IsFaulty f ⊎ (f ≡ fault.Memory)
 
--- what an archive may answer for a valid input: a text, its own fault, or out of memory, but no fault of the input or of a device
-abbrev pub IsOfArchive : Answer → Type 0
-IsOfArchive (Ok told) = Unit {0}
-IsOfArchive (Err fault.Memory) = Unit {0}
-IsOfArchive (Err (fault.Store (store.Card f))) = ⊥
-IsOfArchive (Err (fault.Store f)) = Unit {0}
-IsOfArchive (Err f) = ⊥
+-- what an archive may answer for a valid input: a text, its own fault, or out of memory, but no fault of the input or of a device; a forecast
+-- may also be out of range
+abbrev pub IsOfArchive : Bool → Answer → Type 0
+IsOfArchive forecast (Ok told) = Unit {0}
+IsOfArchive forecast (Err fault.Memory) = Unit {0}
+IsOfArchive forecast (Err (fault.Store (store.Card f))) = ⊥
+IsOfArchive forecast (Err (fault.Store f)) = Unit {0}
+IsOfArchive true (Err (fault.Time time.OutOfRange)) = Unit {0}
+IsOfArchive forecast (Err f) = ⊥
 
 -- either the input is valid, and the archive answers; or the archive was not accessed, and the answer is a fault of the input, or out of
 -- memory
-abbrev pub AsksOnly : {K : Type 0} → K → K → Type 0 → (Fault → Type 0) → Answer → Type 0
-AsksOnly old new IsSound IsFaulty answer = (IsSound × IsOfArchive answer) ⊎ ((new ≡ old) × IsUnread IsFaulty answer)
+abbrev pub AsksOnly : {K : Type 0} → K → K → Bool → Type 0 → (Fault → Type 0) → Answer → Type 0
+AsksOnly old new forecast IsSound IsFaulty answer = (IsSound × IsOfArchive forecast answer) ⊎ ((new ≡ old) × IsUnread IsFaulty answer)

@@ -1,5 +1,6 @@
 -- Trusted: What each task answers, and the state of the archive after it.
-use Rattle.std.specs.Prelude.{◌≡◌, ◌⊎◌, ℕ, ◌*◌, ◌==◌, List, [], ◌∷◌, ◌++◌, Some, Result, Ok, Err, codes, flat_map, if◌then◌else◌, length}
+use Rattle.std.specs.Prelude.{◌≡◌, ◌⊎◌, ℕ, ◌*◌, ◌==◌, List, [], ◌∷◌, ◌++◌, Some, Option, None, Result, Ok, Err, codes, flat_map, if◌then◌else◌, length}
+use Rattle.tacho_time.specs.declared.fault.TimeFault.TheVariants as time
 use Rattle.tacho_line.specs.declared.horizon.Horizon.{Horizon}
 use Rattle.tacho_card.specs.declared.fault.CardFault.{CardFault}
 use Rattle.tacho_card.specs.declared.file.Part.{Part}
@@ -18,6 +19,7 @@ use Rattle.tacho_state.specs.Steps.{Content, register_step, import_step, enter_s
 use Rattle.tacho_state.specs.Summaries.{AreSummaries, Summary, driver_reading}
 use Rattle.tacho_state.specs.declared.caller.Caller.{Caller}
 use Rattle.tacho_state.specs.declared.entry.EntryLine.{EntryLine}
+use Rattle.tacho_state.specs.declared.fault.StoreFault.TheVariants as store
 use Rattle.tacho_state.specs.declared.imported.Imported.{Imported}
 use Rattle.tacho_state.specs.declared.imported.Imported.TheVariants as imported
 use Rattle.tacho_sheet.specs.declared.fault.SheetFault.{SheetFault}
@@ -32,11 +34,12 @@ use Rattle.tacho_sheet.specs.Stretches.{stretch_text, debt_text}
 use Rattle.tacho_sheet.specs.Chart.{IsMonthChart}
 use Rattle.tacho_sheet.specs.Reports.{breach_text, owed_text, IsGapText, IsMonthSheet, IsSpanCsv}
 use Rattle.tacho_sheet.specs.Text.{entry_line, file_line, summary_line}
+use Rattle.tacho_sheet.specs.Ahead.{IsAheadText, IsTooLate}
 use Rattle.tacho_sheet.specs.Why.{IsMonthWhy}
 use Rattle.tacho_desk.specs.Doing.{Doing, IsText, Lists, Refuses, Shows, Steps}
-use Rattle.tacho_sheet.specs.Fault.{card_fault, sheet_fault}
+use Rattle.tacho_sheet.specs.Fault.{card_fault, fault_of_store, sheet_fault, time_fault}
 use Rattle.tacho_desk.specs.Version.{version_text}
-use Rattle.tacho_desk.specs.Told.{Told, Added, Line, Long, File}
+use Rattle.tacho_desk.specs.Told.{Answer, Told, Added, Line, Long, File}
 use Rattle.tacho_sheet.specs.declared.fault.Fault.{Fault}
 use Rattle.tacho_desk.specs.declared.task.Task.{Task}
 use Rattle.tacho_desk.specs.declared.task.Task.TheVariants as task
@@ -134,6 +137,21 @@ ShowsMonth month.Sheet m n s = Shows (λ d. OfReport (λ breaches debts horizon.
 ShowsMonth month.Chart m n s = Shows (λ d. OfStretches (λ stretches. IsMonthChart n d.name (held_spans d) stretches m) d) n s
 ShowsMonth month.Why m n s = Shows (λ d. OfStretches (λ stretches. IsMonthWhy (held_spans d) stretches m) d) n s
 
+-- the forecast of stretches from a minute on; or Z3, if it would go past 2099
+abbrev pub IsForecastOf : ℕ → Driver → List Judged → Answer → Type 0
+IsForecastOf m d stretches (Ok (Long text)) = IsAheadText (held_spans d) stretches m text
+IsForecastOf m d stretches (Ok other) = ⊥
+IsForecastOf m d stretches (Err f) = (f ≡ time_fault time.OutOfRange) × IsTooLate stretches m
+
+-- the forecast for a driver; S4 if there is none
+abbrev pub IsAheadOf : ℕ → Option Driver → Answer → Type 0
+IsAheadOf m None answer = answer ≡ Err (fault_of_store store.UnknownDriver)
+IsAheadOf m (Some d) answer =
+    (stretches : List Judged) × AreStretches (held_spans d) (1440 * d.base) stretches × IsForecastOf m d stretches answer
+
+abbrev pub ShowsAhead : ℕ → ℕ → State → Doing
+ShowsAhead m n s answer after = IsAheadOf m (driver_of n s) answer × (after ≡ s)
+
 abbrev pub ShowsFile : ℕ → ℕ → State → Doing
 ShowsFile n number s = Lists (λ file. File file) s (file_reading n number s)
 
@@ -182,6 +200,7 @@ want_of (task.Base n day) = want.Base
 want_of (task.Key n) = want.Key
 want_of (task.Reading n text) = want.Reading text
 want_of (task.MonthReading n m text) = want.MonthReading text
+want_of (task.Ahead n minute) = want.Ahead
 want_of (task.File n number) = want.File
 want_of task.Drivers = want.Drivers
 want_of (task.Driver n) = want.Drivers
@@ -198,6 +217,7 @@ Does (task.Base n day) input s = Rebases n day s
 Does (task.Key n) input s = Rekeys n input s
 Does (task.Reading n text) input s = ShowsReading text n s
 Does (task.MonthReading n m text) input s = ShowsMonth text m n s
+Does (task.Ahead n minute) input s = ShowsAhead minute n s
 Does (task.File n number) input s = ShowsFile n number s
 Does task.Drivers input s = ShowsDrivers s
 Does (task.Driver n) input s = ShowsDriver n s

@@ -1,7 +1,7 @@
 -- Trusted: The kinds of tasks at an archive: which have an input, which change the archive, and which are a driver's own.
 use Rattle.std.specs.Prelude.{Bool, true, false}
 use Rattle.tacho_desk.specs.declared.want.Want.{Want}
-use Rattle.tacho_desk.specs.declared.want.Want.TheVariants.{Base, Drivers, Enter, File, Import, Key, MonthReading, Reading, Register, Version, Withdraw}
+use Rattle.tacho_desk.specs.declared.want.Want.TheVariants.{Ahead, Base, Drivers, Enter, File, Import, Key, MonthReading, Reading, Register, Version, Withdraw}
 
 -- the task has an input: a text of CSV, a card file or a key
 abbrev pub takes_input : Want → Bool
@@ -29,4 +29,10 @@ is_own (MonthReading text) = true
 is_own File = true
 is_own Drivers = true
 is_own Version = true
+is_own Ahead = true
 is_own want = false
+
+-- the task is a forecast, which may go past 2099
+abbrev pub looks_ahead : Want → Bool
+looks_ahead Ahead = true
+looks_ahead want = false

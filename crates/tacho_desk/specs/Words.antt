@@ -1,6 +1,6 @@
 -- Trusted: The arguments of a task: numbers, dates, months and parts, as they are on a command line or in a path.
-use Rattle.std.specs.Prelude.{◌≡◌, ◌⊎◌, ℕ, List, [], Option, Some, None, Result, Ok, Err, bytes_eq, codes, if◌then◌else◌}
-use Rattle.tacho_time.specs.Reading.{day_at, month_at}
+use Rattle.std.specs.Prelude.{◌≡◌, ◌⊎◌, ◌++◌, ℕ, List, [], Option, Some, None, Result, Ok, Err, bytes_eq, codes, if◌then◌else◌}
+use Rattle.tacho_time.specs.Reading.{day_at, minute_at, month_at}
 use Rattle.tacho_time.specs.declared.fault.TimeFault.{TimeFault}
 use Rattle.tacho_card.specs.declared.file.Part.{Part}
 use Rattle.tacho_card.specs.declared.file.Part.TheVariants as part
@@ -16,15 +16,17 @@ use Rattle.tacho_desk.specs.declared.want.Want.{Want}
 use Rattle.tacho_desk.specs.declared.want.Want.TheVariants as want
 use Rattle.tacho_desk.specs.declared.want.Wish.{Wish as WishValue}
 
--- what is asked for, with the texts of its arguments: the driver's number, and a part of a card file, a number, a day or a month
+-- what is asked for, with the texts of its arguments: the driver's number; a part of a card file, a number, a day or a month; and the time of
+-- a minute on that day
 pub record Wish : Type 0 where
   pub want : Want
   pub driver : List ℕ
   pub word : List ℕ
+  pub time : List ℕ
 
 -- the same of a value of the code
 abbrev pub wish_in : WishValue → Wish
-wish_in w = record { want = w.want; driver = w.driver.now; word = w.word.now }
+wish_in w = record { want = w.want; driver = w.driver.now; word = w.word.now; time = w.time.now }
 
 -- the greatest number of a driver; below, that of an entry or a download
 abbrev pub most_driver : ℕ
@@ -42,10 +44,14 @@ abbrev pub ByNumber : ℕ → List ℕ → (ℕ → Wanted → Type 0) → Wante
 ByNumber most text Is wanted =
     (HasNoNumber most text × (wanted ≡ Err fault.Number)) ⊎ ((n : ℕ) × IsNumberText most text n × Is n wanted)
 
--- the task of the day or the month; or Z1, Z2 or Z3
+-- the task of the day, the month or the minute; or Z1, Z2 or Z3
 abbrev pub by_time : Result ℕ TimeFault → (ℕ → Wanted) → Wanted
 by_time (Err f) task = Err (time_fault f)
 by_time (Ok n) task = task n
+
+-- a minute's day and time in one text
+abbrev pub minute_text_of : List ℕ → List ℕ → List ℕ
+minute_text_of day time = day ++ (codes " " ++ time)
 
 -- the activity data of both generations, of the first, or of the second
 abbrev pub part_of : List ℕ → Option Part
@@ -80,19 +86,21 @@ IsDriversTask caller.Office [] wanted = wanted ≡ Ok task.Drivers
 IsDriversTask c driver wanted = ByDriver c driver (λ n w. w ≡ Ok (task.Driver n)) wanted
 
 -- the task that the arguments make for a caller, read from left to right, or the fault of the first bad argument
-abbrev pub IsTask : Want → Caller → List ℕ → List ℕ → Wanted → Type 0
-IsTask want.Register c driver word wanted = wanted ≡ Ok task.Register
-IsTask want.Import c driver word wanted = wanted ≡ by_part (part_of word) (λ p. task.Import c p)
-IsTask want.Enter c driver word wanted = ByDriver c driver (λ n w. w ≡ Ok (task.Enter n)) wanted
-IsTask want.Withdraw c driver word wanted =
+abbrev pub IsTask : Want → Caller → List ℕ → List ℕ → List ℕ → Wanted → Type 0
+IsTask want.Register c driver word time wanted = wanted ≡ Ok task.Register
+IsTask want.Import c driver word time wanted = wanted ≡ by_part (part_of word) (λ p. task.Import c p)
+IsTask want.Enter c driver word time wanted = ByDriver c driver (λ n w. w ≡ Ok (task.Enter n)) wanted
+IsTask want.Withdraw c driver word time wanted =
     ByDriver c driver (λ n. ByNumber most_number word (λ k w. w ≡ Ok (task.Withdraw n k))) wanted
-IsTask want.Base c driver word wanted = ByDriver c driver (λ n w. w ≡ by_time (day_at word) (λ day. Ok (task.Base n day))) wanted
-IsTask want.Key c driver word wanted = ByDriver c driver (λ n w. w ≡ Ok (task.Key n)) wanted
-IsTask (want.Reading text) c driver word wanted = ByDriver c driver (λ n w. w ≡ Ok (task.Reading n text)) wanted
-IsTask (want.MonthReading text) c driver word wanted =
+IsTask want.Base c driver word time wanted = ByDriver c driver (λ n w. w ≡ by_time (day_at word) (λ day. Ok (task.Base n day))) wanted
+IsTask want.Key c driver word time wanted = ByDriver c driver (λ n w. w ≡ Ok (task.Key n)) wanted
+IsTask (want.Reading text) c driver word time wanted = ByDriver c driver (λ n w. w ≡ Ok (task.Reading n text)) wanted
+IsTask (want.MonthReading text) c driver word time wanted =
     ByDriver c driver (λ n w. w ≡ by_time (month_at word) (λ month. Ok (task.MonthReading n month text))) wanted
-IsTask want.File c driver word wanted =
+IsTask want.File c driver word time wanted =
     ByDriver c driver (λ n. ByNumber most_number word (λ k w. w ≡ Ok (task.File n k))) wanted
-IsTask want.Drivers c driver word wanted = IsDriversTask c driver wanted
-IsTask want.Version c driver word wanted = wanted ≡ Ok task.Version
-IsTask (want.MonthOfAll text) c driver word wanted = wanted ≡ by_time (month_at word) (λ month. Ok (task.MonthOfAll month text))
+IsTask want.Drivers c driver word time wanted = IsDriversTask c driver wanted
+IsTask want.Version c driver word time wanted = wanted ≡ Ok task.Version
+IsTask (want.MonthOfAll text) c driver word time wanted = wanted ≡ by_time (month_at word) (λ month. Ok (task.MonthOfAll month text))
+IsTask want.Ahead c driver word time wanted =
+    ByDriver c driver (λ n w. w ≡ by_time (minute_at (minute_text_of word time)) (λ minute. Ok (task.Ahead n minute))) wanted

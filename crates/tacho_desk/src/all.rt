@@ -22,7 +22,7 @@ pub(crate) fn show_month<K: Keeper>(
 ) -> Result<Text, Fault>
     ensures serves { Serves K.stands K.is_clean K.is_live K.leaves K.is_same keeper.old keeper.new false (answer_of result)
         (ShowsMonthOfAll reading month) }
-    ensures archive { IsOfArchive (answer_of result) }
+    ensures archive { IsOfArchive false (answer_of result) }
 {
     match reading {
         MonthOfAll::Overview => overview(alloc, keeper, month),
@@ -34,7 +34,7 @@ pub(crate) fn show_month<K: Keeper>(
 fn overview<K: Keeper>(alloc: Global, keeper: &mut K, month: Month) -> Result<Text, Fault>
     ensures serves { Serves K.stands K.is_clean K.is_live K.leaves K.is_same keeper.old keeper.new false (answer_of result)
         (ShowsMonthOfAll all.Overview month) }
-    ensures archive { IsOfArchive (answer_of result) }
+    ensures archive { IsOfArchive false (answer_of result) }
 {
     let (start, past) = month_range(month);
     let drivers = keeper.drivers(alloc)?;
@@ -58,7 +58,7 @@ fn overview<K: Keeper>(alloc: Global, keeper: &mut K, month: Month) -> Result<Te
 fn incidents<K: Keeper>(alloc: Global, keeper: &mut K, month: Month) -> Result<Text, Fault>
     ensures serves { Serves K.stands K.is_clean K.is_live K.leaves K.is_same keeper.old keeper.new false (answer_of result)
         (ShowsMonthOfAll all.Incidents month) }
-    ensures archive { IsOfArchive (answer_of result) }
+    ensures archive { IsOfArchive false (answer_of result) }
 {
     let drivers = keeper.drivers(alloc)?;
     let mut text = incident_head(alloc)?;

@@ -15,6 +15,10 @@ pub enum Argument {
     Date,
     /// A month.
     Month,
+    /// The day of a minute. The next argument is its time.
+    DateOfTime,
+    /// The time of a minute.
+    Time,
     /// The office's key.
     Key,
     /// The port of a server.
@@ -39,6 +43,8 @@ impl Argument {
             Argument::Number => "NUMBER",
             Argument::Date => "DATE",
             Argument::Month => "MONTH",
+            Argument::DateOfTime => "DATE",
+            Argument::Time => "TIME",
             Argument::Key => "KEY",
             Argument::Port => "PORT",
             Argument::Count => "COUNT",

@@ -1,6 +1,6 @@
 //! The commands, with their numbers and their input.
 
-ghost use Rattle.std.specs.Prelude.{◌≡◌, true};
+ghost use Rattle.std.specs.Prelude.{◌≡◌, false, true};
 ghost use Rattle.tacho_desk.specs.Doing.{AsksOnly, IsOfArchive, Serves};
 ghost use Rattle.tacho_desk.specs.Tasks.{Enters, Imports, IsFaulty, IsSound, Rebases, Registers, Rekeys, Withdraws, imported_told};
 ghost use Rattle.tacho_desk.specs.declared.task.Task.TheVariants as task;
@@ -23,7 +23,8 @@ pub(crate) fn register<K: Keeper>(
     input: &[u8],
 ) -> Result<Text, Fault>
     ensures serves { Serves K.stands K.is_clean K.is_live K.leaves K.is_same keeper.old keeper.new true (answer_of result) (Registers input.now) }
-    ensures asks { AsksOnly keeper.old keeper.new (IsSound task.Register input.now) (IsFaulty task.Register input.now) (answer_of result) }
+    ensures asks { AsksOnly keeper.old keeper.new false (IsSound task.Register input.now) (IsFaulty task.Register input.now)
+        (answer_of result) }
 {
     let driver = read_driver(alloc, input)?;
     keeper.register(&driver)?;
@@ -40,8 +41,8 @@ pub(crate) fn import<K: Keeper>(
 ) -> Result<Text, Fault>
     ensures serves { Serves K.stands K.is_clean K.is_live K.leaves K.is_same keeper.old keeper.new true (answer_of result)
         (Imports caller part input.now) }
-    ensures asks { AsksOnly keeper.old keeper.new (IsSound (task.Import caller part) input.now) (IsFaulty (task.Import caller part) input.now)
-        (answer_of result) }
+    ensures asks { AsksOnly keeper.old keeper.new false (IsSound (task.Import caller part) input.now)
+        (IsFaulty (task.Import caller part) input.now) (answer_of result) }
 {
     let imported = keeper.import(alloc, caller, part, input)?;
     Ok(imported_text(imported))
@@ -66,7 +67,8 @@ pub(crate) fn enter<K: Keeper>(
     input: &[u8],
 ) -> Result<Text, Fault>
     ensures serves { Serves K.stands K.is_clean K.is_live K.leaves K.is_same keeper.old keeper.new true (answer_of result) (Enters driver input.now) }
-    ensures asks { AsksOnly keeper.old keeper.new (IsSound (task.Enter driver) input.now) (IsFaulty (task.Enter driver) input.now) (answer_of result) }
+    ensures asks { AsksOnly keeper.old keeper.new false (IsSound (task.Enter driver) input.now) (IsFaulty (task.Enter driver) input.now)
+        (answer_of result) }
 {
     let lines = read_entries(alloc, input)?;
     let entered = keeper.enter(alloc, driver, &lines)?;
@@ -86,7 +88,7 @@ pub(crate) fn withdraw<K: Keeper>(
     number: u32,
 ) -> Result<Text, Fault>
     ensures serves { Serves K.stands K.is_clean K.is_live K.leaves K.is_same keeper.old keeper.new true (answer_of result) (Withdraws driver number) }
-    ensures archive { IsOfArchive (answer_of result) }
+    ensures archive { IsOfArchive false (answer_of result) }
 {
     keeper.withdraw(alloc, driver, number)?;
     Ok(Text::Line(withdrawn_line(number)))
@@ -95,7 +97,7 @@ pub(crate) fn withdraw<K: Keeper>(
 /// Sets a driver's base.
 pub(crate) fn rebase<K: Keeper>(keeper: &mut K, driver: u32, base: BaseDay) -> Result<Text, Fault>
     ensures serves { Serves K.stands K.is_clean K.is_live K.leaves K.is_same keeper.old keeper.new true (answer_of result) (Rebases driver base) }
-    ensures archive { IsOfArchive (answer_of result) }
+    ensures archive { IsOfArchive false (answer_of result) }
 {
     let day = base.day();
     keeper.rebase(driver, day)?;
@@ -105,7 +107,8 @@ pub(crate) fn rebase<K: Keeper>(keeper: &mut K, driver: u32, base: BaseDay) -> R
 /// Sets a driver's key, given as a line.
 pub(crate) fn rekey<K: Keeper>(keeper: &mut K, driver: u32, input: &[u8]) -> Result<Text, Fault>
     ensures serves { Serves K.stands K.is_clean K.is_live K.leaves K.is_same keeper.old keeper.new true (answer_of result) (Rekeys driver input.now) }
-    ensures asks { AsksOnly keeper.old keeper.new (IsSound (task.Key driver) input.now) (IsFaulty (task.Key driver) input.now) (answer_of result) }
+    ensures asks { AsksOnly keeper.old keeper.new false (IsSound (task.Key driver) input.now) (IsFaulty (task.Key driver) input.now)
+        (answer_of result) }
 {
     let key = read_key_line(input)?;
     keeper.rekey(driver, key)?;

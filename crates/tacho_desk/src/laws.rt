@@ -10,15 +10,16 @@ ghost use Rattle.tacho_desk.specs.declared.want.Want.{Want};
 
 use tacho_rules::laws::one_report;
 use tacho_sheet::laws::{
-    one_chart_of_a_month, one_form, one_sheet_of_a_month, one_text_of_a_month, one_why_of_a_month,
+    one_ahead_text, one_chart_of_a_month, one_form, one_sheet_of_a_month, one_text_of_a_month,
+    one_why_of_a_month,
 };
 use tacho_state::laws::one_content;
 use tacho_stretches::laws::one_list_of_stretches;
 
 /// Arguments make one task, or have one first fault.
 pub fn one_task()
-    ensures { (want : Want) (caller : Caller) (driver word : List ℕ) (a b : Wanted) → IsTask want caller driver word a
-        → IsTask want caller driver word b → a ≡ b }
+    ensures { (want : Want) (caller : Caller) (driver word time : List ℕ) (a b : Wanted) → IsTask want caller driver word time a
+        → IsTask want caller driver word time b → a ≡ b }
 {}
 
 /// The arguments of each command are read as the kinds that its row of the table names, from left to right: what is asked for is refused
@@ -50,4 +51,5 @@ pub fn own_tasks_have_one_answer()
     one_form();
     one_chart_of_a_month();
     one_why_of_a_month();
+    one_ahead_text();
 }

@@ -1,8 +1,8 @@
 //! Texts about a driver.
 
-ghost use Rattle.std.specs.Prelude.{false};
+ghost use Rattle.std.specs.Prelude.{false, true};
 ghost use Rattle.tacho_desk.specs.Doing.{IsOfArchive, Serves};
-ghost use Rattle.tacho_desk.specs.Tasks.{ShowsDriver, ShowsDrivers, ShowsFile, ShowsMonth, ShowsReading, ShowsVersion};
+ghost use Rattle.tacho_desk.specs.Tasks.{ShowsAhead, ShowsDriver, ShowsDrivers, ShowsFile, ShowsMonth, ShowsReading, ShowsVersion};
 ghost use Rattle.tacho_desk.specs.Told.{answer_of};
 
 use crate::release::version_text;
@@ -11,12 +11,12 @@ use crate::want::{MonthReading, Reading};
 use std::alloc::Global;
 use std::slice;
 use tacho_sheet::{
-    Fault, breach_text, debt_text, driver_text, entry_text, file_text, form_text, gap_text,
-    month_chart, month_sheet, owed_text, span_csv, stretch_text, why_text,
+    Fault, ahead_text, breach_text, debt_text, driver_text, entry_text, file_text, form_text,
+    gap_text, month_chart, month_sheet, owed_text, span_csv, stretch_text, why_text,
 };
 use tacho_state::{Keeper, StoreFault};
 use tacho_stretches::range_of;
-use tacho_time::{Month, month_range};
+use tacho_time::{Minute, Month, month_range};
 
 /// Answers with a text about a driver.
 pub(crate) fn show<K: Keeper>(
@@ -27,7 +27,7 @@ pub(crate) fn show<K: Keeper>(
 ) -> Result<Text, Fault>
     ensures serves { Serves K.stands K.is_clean K.is_live K.leaves K.is_same keeper.old keeper.new false (answer_of result)
         (ShowsReading reading driver) }
-    ensures archive { IsOfArchive (answer_of result) }
+    ensures archive { IsOfArchive false (answer_of result) }
 {
     match reading {
         Reading::Breaches => Ok(Text::Long(breach_text(alloc, &keeper.report(alloc, driver)?)?)),
@@ -58,7 +58,7 @@ pub(crate) fn show_month<K: Keeper>(
 ) -> Result<Text, Fault>
     ensures serves { Serves K.stands K.is_clean K.is_live K.leaves K.is_same keeper.old keeper.new false (answer_of result)
         (ShowsMonth reading month driver) }
-    ensures archive { IsOfArchive (answer_of result) }
+    ensures archive { IsOfArchive false (answer_of result) }
 {
     let (start, past) = month_range(month);
     match reading {
@@ -89,6 +89,23 @@ pub(crate) fn show_month<K: Keeper>(
     }
 }
 
+/// Answers with the forecast for a driver from a minute on. Fails with Z3 if it would go past 2099, and with S12 if what the archive holds
+/// can't be examined.
+pub(crate) fn ahead<K: Keeper>(
+    alloc: Global,
+    keeper: &mut K,
+    driver: u32,
+    minute: Minute,
+) -> Result<Text, Fault>
+    ensures serves { Serves K.stands K.is_clean K.is_live K.leaves K.is_same keeper.old keeper.new false (answer_of result)
+        (ShowsAhead minute driver) }
+    ensures archive { IsOfArchive true (answer_of result) }
+{
+    let (line, stretches) = keeper.line_and_stretches_from_base(alloc, driver)?;
+    let text = ahead_text(alloc, &line, &stretches, minute)?.ok_or(StoreFault::Store)?;
+    Ok(Text::Long(text))
+}
+
 /// Answers with a card file of the archive.
 pub(crate) fn file<K: Keeper>(
     alloc: Global,
@@ -98,7 +115,7 @@ pub(crate) fn file<K: Keeper>(
 ) -> Result<Text, Fault>
     ensures serves { Serves K.stands K.is_clean K.is_live K.leaves K.is_same keeper.old keeper.new false (answer_of result)
         (ShowsFile driver number) }
-    ensures archive { IsOfArchive (answer_of result) }
+    ensures archive { IsOfArchive false (answer_of result) }
 {
     Ok(Text::File(keeper.download(alloc, driver, number)?))
 }
@@ -107,7 +124,7 @@ pub(crate) fn file<K: Keeper>(
 /// whom no empty key names.
 pub(crate) fn version<K: Keeper>(keeper: &mut K) -> Result<Text, Fault>
     ensures serves { Serves K.stands K.is_clean K.is_live K.leaves K.is_same keeper.old keeper.new false (answer_of result) ShowsVersion }
-    ensures archive { IsOfArchive (answer_of result) }
+    ensures archive { IsOfArchive false (answer_of result) }
 {
     keeper.who(&[])?;
     Ok(Text::Fixed(version_text()))
@@ -116,7 +133,7 @@ pub(crate) fn version<K: Keeper>(keeper: &mut K) -> Result<Text, Fault>
 /// Writes what is listed of a driver.
 pub(crate) fn driver<K: Keeper>(alloc: Global, keeper: &mut K, driver: u32) -> Result<Text, Fault>
     ensures serves { Serves K.stands K.is_clean K.is_live K.leaves K.is_same keeper.old keeper.new false (answer_of result) (ShowsDriver driver) }
-    ensures archive { IsOfArchive (answer_of result) }
+    ensures archive { IsOfArchive false (answer_of result) }
 {
     let found = keeper.driver(alloc, driver)?;
     Ok(Text::Long(driver_text(alloc, slice::from_ref(&found))?))
@@ -125,7 +142,7 @@ pub(crate) fn driver<K: Keeper>(alloc: Global, keeper: &mut K, driver: u32) -> R
 /// Writes the list of all drivers.
 pub(crate) fn drivers<K: Keeper>(alloc: Global, keeper: &mut K) -> Result<Text, Fault>
     ensures serves { Serves K.stands K.is_clean K.is_live K.leaves K.is_same keeper.old keeper.new false (answer_of result) ShowsDrivers }
-    ensures archive { IsOfArchive (answer_of result) }
+    ensures archive { IsOfArchive false (answer_of result) }
 {
     let drivers = keeper.drivers(alloc)?;
     Ok(Text::Long(driver_text(alloc, &drivers)?))

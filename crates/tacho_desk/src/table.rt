@@ -5,14 +5,14 @@ ghost use Rattle.tacho_desk.specs.Commands.{all_commands, row_of};
 
 use self::Act::{AtDesk, Card, Check, Dump, Holder, Init, Listen, Migrate, Serve, Version};
 use crate::argument::Argument::{
-    self, AnyDriver, Archive, Count, Date, Driver, Month, Number, Part, Port,
+    self, AnyDriver, Archive, Count, Date, DateOfTime, Driver, Month, Number, Part, Port, Time,
 };
 use crate::want::MonthOfAll::{Incidents, Overview};
 use crate::want::MonthReading::{Chart, Gaps, Sheet, Spans, Why};
 use crate::want::Reading::{Breaches, Debts, Entries, Files, Form, Owed, Stretches};
 use crate::want::Want::{
-    self, Base, Drivers, Enter, File, Import, Key, MonthOfAll, MonthReading, Reading, Register,
-    Withdraw,
+    self, Ahead, Base, Drivers, Enter, File, Import, Key, MonthOfAll, MonthReading, Reading,
+    Register, Withdraw,
 };
 
 /// What a command does.
@@ -56,7 +56,7 @@ pub struct Command {
 }
 
 /// The commands.
-static COMMANDS: [Command; 31] = [
+static COMMANDS: [Command; 32] = [
     Command {
         name: "dump",
         about: "Prints the spans in the value of an EF Driver_Activity_Data (0504), one per line",
@@ -231,6 +231,16 @@ static COMMANDS: [Command; 31] = [
         arguments: &[Archive, Driver],
         act: AtDesk(Reading(Debts)),
         paths: &["/drivers/{driver}/debts", "/me/debts"],
+    },
+    Command {
+        name: "ahead",
+        about: "Prints how much is left until the limit of each rule if a driver drives on from a minute, and what is used and owed by then",
+        arguments: &[Archive, Driver, DateOfTime, Time],
+        act: AtDesk(Ahead),
+        paths: &[
+            "/drivers/{driver}/ahead/{word}/{time}",
+            "/me/ahead/{word}/{time}",
+        ],
     },
     Command {
         name: "overview",

@@ -1,7 +1,7 @@
 ghost use Rattle.tacho_desk.specs.Doing.{AsksOnly, Serves};
 ghost use Rattle.tacho_desk.specs.Tasks.{Does, IsFaulty, IsSound, want_of};
 ghost use Rattle.tacho_desk.specs.Told.{answer_of};
-ghost use Rattle.tacho_desk.specs.Wants.{is_command};
+ghost use Rattle.tacho_desk.specs.Wants.{is_command, looks_ahead};
 
 use crate::base::BaseDay;
 use crate::text::Text;
@@ -11,7 +11,7 @@ use std::alloc::Global;
 use tacho_card::Part;
 use tacho_sheet::Fault;
 use tacho_state::{Caller, Keeper};
-use tacho_time::Month;
+use tacho_time::{Minute, Month};
 
 /// What is to be done at an archive, with its arguments read.
 #[derive(Clone, Copy)]
@@ -57,6 +57,11 @@ pub enum Task {
         month: Month,
         reading: MonthOfAll,
     },
+    /// Reads the forecast for a driver from a minute on.
+    Ahead {
+        driver: u32,
+        minute: Minute,
+    },
     /// Reads a card file of the archive.
     File {
         driver: u32,
@@ -83,7 +88,8 @@ pub fn carry_out<K: Keeper>(
 ) -> Result<Text, Fault>
     ensures serves { Serves K.stands K.is_clean K.is_live K.leaves K.is_same keeper.old keeper.new (is_command (want_of task)) (answer_of result)
         (Does task input.now) }
-    ensures asks { AsksOnly keeper.old keeper.new (IsSound task input.now) (IsFaulty task input.now) (answer_of result) }
+    ensures asks { AsksOnly keeper.old keeper.new (looks_ahead (want_of task)) (IsSound task input.now) (IsFaulty task input.now)
+        (answer_of result) }
 {
     match task {
         Task::Register => commands::register(alloc, keeper, input),
@@ -99,6 +105,7 @@ pub fn carry_out<K: Keeper>(
             reading,
         } => readings::show_month(alloc, keeper, driver, month, reading),
         Task::MonthOfAll { month, reading } => all::show_month(alloc, keeper, month, reading),
+        Task::Ahead { driver, minute } => readings::ahead(alloc, keeper, driver, minute),
         Task::File { driver, number } => readings::file(alloc, keeper, driver, number),
         Task::Drivers => readings::drivers(alloc, keeper),
         Task::Driver { driver } => readings::driver(alloc, keeper, driver),

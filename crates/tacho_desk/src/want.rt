@@ -19,6 +19,8 @@ pub enum Want {
     MonthReading(MonthReading),
     /// Read a text about a month of all drivers.
     MonthOfAll(MonthOfAll),
+    /// Read the forecast for a driver from a minute on.
+    Ahead,
     /// Read a card file of the archive.
     File,
     /// List all drivers, or one of them.
@@ -100,4 +102,6 @@ pub struct Wish<'a> {
     pub driver: &'a [u8],
     /// The other argument: a part of a card file, a number, a day or a month.
     pub word: &'a [u8],
+    /// The time of a minute, if `word` is its day.
+    pub time: &'a [u8],
 }

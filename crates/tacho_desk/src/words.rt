@@ -1,16 +1,18 @@
 ghost use Rattle.std.specs.Prelude.{◌≡◌, IfOk, MatchResult};
+ghost use Rattle.tacho_time.specs.Reading.{minute_at};
 ghost use Rattle.tacho_sheet.specs.Number.{HasNoNumber, IsNumberText};
 ghost use Rattle.tacho_desk.specs.Tasks.{want_of};
 ghost use Rattle.tacho_desk.specs.declared.task.Task.TheVariants as task;
-ghost use Rattle.tacho_desk.specs.Words.{HasNoDriver, IsDriver, IsDriversTask, IsTask, by_part, most_number, part_of as part_named};
+ghost use Rattle.tacho_desk.specs.Words.{HasNoDriver, IsDriver, IsDriversTask, IsTask, by_part, minute_text_of, most_number, part_of as part_named};
 
 use crate::base::BaseDay;
 use crate::task::Task;
 use crate::want::{Want, Wish};
+use arrayvec::ArrayVec;
 use tacho_card::Part;
 use tacho_sheet::{Fault, read_number};
 use tacho_state::Caller;
-use tacho_time::Month;
+use tacho_time::{Minute, Month, TimeFault};
 
 /// The greatest number of a driver.
 const LAST_DRIVER: u32 = 999_999;
@@ -51,6 +53,19 @@ fn number_of(text: &[u8]) -> Result<u32, BadNumber>
     read_number(text, LAST_NUMBER).ok_or(BadNumber)
 }
 
+/// Reads a minute from its day and its time: Z1 to Z3 of both together.
+fn minute_of(day: &[u8], time: &[u8]) -> Result<Minute, TimeFault>
+    ensures { result ≡ minute_at (minute_text_of day.now time.now) }
+{
+    let mut text = ArrayVec::<u8, 16>::new();
+    for part in [day, b" ".as_slice(), time] {
+        if text.try_extend_from_slice(part).is_err() {
+            return Err(TimeFault::Shape);
+        }
+    }
+    Minute::read(&text)
+}
+
 /// Reads the name of a part of a card file: `both`, `first` or `second`.
 pub fn part_of(word: &[u8]) -> Option<Part>
     ensures { result ≡ part_named word.now }
@@ -89,12 +104,17 @@ fn drivers_of(caller: Caller, text: &[u8]) -> Result<Task, Fault>
 }
 
 /// Makes the task that a caller asks for. Reads its arguments from left to right: the driver's number (N1), which only the office gives, then
-/// a part (P1), the number of an entry or a download (N1), a day or a month (Z1 to Z3).
+/// a part (P1), the number of an entry or a download (N1), a day, a month or a minute (Z1 to Z3).
 pub fn task_of(caller: Caller, wish: Wish<'_>) -> Result<Task, Fault>
-    ensures task { IsTask wish.entry.want caller wish.entry.driver.now wish.entry.word.now result }
+    ensures task { IsTask wish.entry.want caller wish.entry.driver.now wish.entry.word.now wish.entry.time.now result }
     ensures want { IfOk result (λ task. want_of task ≡ wish.entry.want) }
 {
-    let Wish { want, driver, word } = wish;
+    let Wish {
+        want,
+        driver,
+        word,
+        time,
+    } = wish;
     match want {
         Want::Register => Ok(Task::Register),
         Want::Import => import_of(caller, word),
@@ -136,6 +156,11 @@ pub fn task_of(caller: Caller, wish: Wish<'_>) -> Result<Task, Fault>
         }
         Want::Drivers => drivers_of(caller, driver),
         Want::Version => Ok(Task::Version),
+        Want::Ahead => {
+            let driver = driver_of(caller, driver)?;
+            let minute = minute_of(word, time)?;
+            Ok(Task::Ahead { driver, minute })
+        }
         Want::MonthOfAll(reading) => {
             let month = Month::read(word)?;
             Ok(Task::MonthOfAll { month, reading })

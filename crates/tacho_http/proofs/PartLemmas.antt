@@ -1,7 +1,8 @@
 -- The parts of a path, by its first slash and by its last.
-use Rattle.std.proofs.Common.{◌≡◌, ◌==◌, ◌≤◌, ◌+◌, ◌∷◌, ℕ, true, List, [], length, take, drop, refl, arith, suc, zero}
+use Rattle.std.proofs.Common.{◌≡◌, ◌==◌, ◌≤◌, ◌+◌, ◌-◌, ◌∷◌, ◌∙◌, ℕ, true, List, [], length, take, drop, ap, refl, sym, arith, suc, zero}
+use Rattle.std.proofs.lemmas.List.{length-drop}
 use Rattle.memchr.specs.Find.{NoneAfter, NoneBefore, Nowhere, Passes, is_byte}
-use Rattle.tacho_http.specs.Routes.{before_slash, last_from}
+use Rattle.tacho_http.specs.Routes.{before_slash, front_part, last_from, last_part}
 
 abbrev IsSlash : List ℕ → ℕ → Type 0
 IsSlash = Passes (is_byte 47)
@@ -55,3 +56,19 @@ after_last part (b ∷ path) (suc k) last here =
     let anew = after_last path path k rest here in
     let same = after_last part path k rest here in
     rw on (grind arith)
+
+-- without a slash nothing comes before the last part
+pub no_front : (path : List ℕ) → Nowhere (IsSlash path) 0 (length path) → [] ≡ front_part path
+no_front path none =
+    let long : length path ≡ length (last_part path) = ap length (last_whole path path none) in
+    let start : 0 ≡ length path - (length (last_part path) + 1) = omega (arith, long) in
+    ap (λ n. take n path) start
+
+-- what comes before the last slash
+pub before_last : (path : List ℕ) (k : ℕ) → NoneAfter (IsSlash path) 0 (length path) k → IsSlash path k → take k path ≡ front_part path
+before_last path k last here =
+    let high = last.high in
+    let long : length path - (k + 1) ≡ length (last_part path) =
+    sym (length-drop (k + 1) path) ∙ ap length (after_last path path k last here) in
+    let end : k ≡ length path - (length (last_part path) + 1) = omega (arith, long, high) in
+    ap (λ n. take n path) end

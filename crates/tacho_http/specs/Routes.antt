@@ -1,5 +1,5 @@
 -- Trusted in part: The routes, and what a path names.
-use Rattle.std.specs.Prelude.{ℕ, List, [], ◌∷◌, ◌++◌, Option, Some, None, option_map, codes, flat_map, Result, Ok, Err, ◌==◌, drop, if◌then◌else◌}
+use Rattle.std.specs.Prelude.{ℕ, List, [], ◌∷◌, ◌++◌, Option, Some, None, option_map, codes, flat_map, Result, Ok, Err, ◌==◌, ◌+◌, ◌-◌, drop, take, length, if◌then◌else◌}
 use Rattle.matchit.specs.Rows.{RowsOf}
 use Rattle.matchit.specs.Order.{placed}
 use Rattle.matchit.specs.Route.{Scan, parse_route}
@@ -10,7 +10,7 @@ use Rattle.tacho_desk.specs.declared.want.MonthOfAll.TheVariants.{Incidents, Ove
 use Rattle.tacho_desk.specs.declared.want.MonthReading.TheVariants.{Chart, Gaps, Sheet, Spans, Why}
 use Rattle.tacho_desk.specs.declared.want.Reading.TheVariants.{Breaches, Debts, Entries, Files, Form, Owed, Stretches}
 use Rattle.tacho_desk.specs.declared.want.Want.{Want}
-use Rattle.tacho_desk.specs.declared.want.Want.TheVariants.{Base, Drivers, Enter, File, Import, Key, MonthOfAll, MonthReading, Reading, Register, Version, Withdraw}
+use Rattle.tacho_desk.specs.declared.want.Want.TheVariants.{Ahead, Base, Drivers, Enter, File, Import, Key, MonthOfAll, MonthReading, Reading, Register, Version, Withdraw}
 use Rattle.tacho_desk.specs.Words.{Wish, wish_in}
 use Rattle.tacho_message.specs.declared.method.Method.{Method}
 use Rattle.tacho_message.specs.declared.method.Method.TheVariants as method
@@ -61,6 +61,7 @@ office_table =
     ∷ table_row (codes "/drivers/{driver}/form") Office (Some (Reading Form)) None
     ∷ table_row (codes "/drivers/{driver}/why/{word}") Office (Some (MonthReading Why)) None
     ∷ table_row (codes "/drivers/{driver}/chart/{word}") Office (Some (MonthReading Chart)) None
+    ∷ table_row (codes "/drivers/{driver}/ahead/{word}/{time}") Office (Some Ahead) None
     ∷ table_row (codes "/overview/{word}") Office (Some (MonthOfAll Overview)) None
     ∷ table_row (codes "/incidents/{word}") Office (Some (MonthOfAll Incidents)) None
     ∷ table_row (codes "/version") Office (Some Version) None
@@ -76,6 +77,7 @@ driver_table =
     ∷ table_row (codes "/me/form") Driver (Some (Reading Form)) None
     ∷ table_row (codes "/me/why/{word}") Driver (Some (MonthReading Why)) None
     ∷ table_row (codes "/me/chart/{word}") Driver (Some (MonthReading Chart)) None
+    ∷ table_row (codes "/me/ahead/{word}/{time}") Driver (Some Ahead) None
     ∷ table_row (codes "/me/version") Driver (Some Version) None
     ∷ table_row (codes "/me/driver") Driver (Some Drivers) None
     ∷ []
@@ -133,6 +135,15 @@ last_from part (b ∷ path) = if b == 47 then last_from path path else last_from
 abbrev pub last_part : List ℕ → List ℕ
 last_part path = last_from path path
 
+-- a path without its last part and the slash before it
+abbrev pub front_part : List ℕ → List ℕ
+front_part path = take (length path - (length (last_part path) + 1)) path
+
+-- the word of what is asked for: the last part of a path; of a forecast the part before it, since the last is its time
+abbrev pub word_part : Want → List ℕ → List ℕ
+word_part Ahead path = last_part (front_part path)
+word_part want path = last_part path
+
 -- who may ask at a path, and for what
 pub record Named : Type 0 where
   pub asker : Asker
@@ -141,7 +152,12 @@ pub record Named : Type 0 where
 abbrev pub named_by : List ℕ → RouteOf Place → Named
 named_by path route = record {
   asker = route.value.asker;
-  wish = record { want = route.value.want; driver = driver_part path; word = last_part path };
+  wish = record {
+    want = route.value.want;
+    driver = driver_part path;
+    word = word_part route.value.want path;
+    time = last_part path;
+  };
 }
 
 abbrev pub named_in : Rows → List ℕ → Option Named

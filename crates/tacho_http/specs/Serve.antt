@@ -54,7 +54,7 @@ Bodied n rest s With reply after =
 
 -- what is asked for is done with its body; its arguments are read from left to right
 abbrev pub Runs : List ℕ → Wish → ℕ → Caller → List ℕ → State → Reaction
-Runs office w n c rest s = Bodied n rest s (λ body reply after. (wanted : Wanted) × IsTask w.want c w.driver w.word wanted × RepliesToTask office wanted body s reply after)
+Runs office w n c rest s = Bodied n rest s (λ body reply after. (wanted : Wanted) × IsTask w.want c w.driver w.word w.time wanted × RepliesToTask office wanted body s reply after)
 
 -- 400, 411 or 413 if the length of the body is refused
 abbrev pub WithBody : List ℕ → Result ℕ Status → Wish → Caller → List ℕ → State → Reaction

@@ -5,7 +5,7 @@ ghost use Rattle.tacho_message.specs.declared.method.Method.TheVariants.{Get, Po
 ghost use Rattle.tacho_desk.specs.Commands.{row_of};
 ghost use Rattle.tacho_http.specs.Asked.{asker_of, wish_at, wish_by, wish_found};
 ghost use Rattle.tacho_http.specs.Offers.{asker_of_path, offer_at, offers_in, offers_of, want_of as want_at};
-ghost use Rattle.tacho_http.specs.Routes.{driver_part, last_part, named_in, named_found, routes, with_offers};
+ghost use Rattle.tacho_http.specs.Routes.{driver_part, front_part, last_part, named_in, named_found, routes, with_offers, word_part};
 
 use matchit::{InsertError, Router};
 use memchr::{memchr, memrchr};
@@ -107,8 +107,8 @@ impl Model for Routes {
     ghost invariant = { λ r. (r.get ≡ routes Get) × (r.post ≡ routes Post) };
 }
 
-/// What a path names: who may ask there, and for what. The driver's number is the part after `/drivers/`, and the other argument is the last
-/// part.
+/// What a path names: who may ask there, and for what. The driver's number is the part after `/drivers/`. The other argument is the last
+/// part; of a forecast they are the last two, its day and its time.
 #[derive(Clone, Copy)]
 struct Found<'p> {
     asker: Asker,
@@ -179,12 +179,32 @@ fn driver_of(path: &[u8]) -> &[u8]
 }
 
 /// The last part of a path.
-fn word_of(path: &[u8]) -> &[u8]
+fn last_of(path: &[u8]) -> &[u8]
     ensures { result.now ≡ last_part path.now }
 {
     match memrchr(b'/', path) {
         Some(slash) => &path[slash + 1..],
         None => path,
+    }
+}
+
+/// A path without its last part and the slash before it.
+fn front_of(path: &[u8]) -> &[u8]
+    ensures { result.now ≡ front_part path.now }
+{
+    match memrchr(b'/', path) {
+        Some(slash) => &path[..slash],
+        None => &[],
+    }
+}
+
+/// The word of what is asked for: the last part of a path; of a forecast the part before it, since the last is its time.
+fn word_of(want: Want, path: &[u8]) -> &[u8]
+    ensures { result.now ≡ word_part want path.now }
+{
+    match want {
+        Want::Ahead => last_of(front_of(path)),
+        _ => last_of(path),
     }
 }
 
@@ -198,7 +218,8 @@ fn find_in<'p>(router: &Router<Place>, path: &'p str) -> Option<Found<'p>>
             wish: Wish {
                 want: found.value.want,
                 driver: driver_of(path.as_bytes()),
-                word: word_of(path.as_bytes()),
+                word: word_of(found.value.want, path.as_bytes()),
+                time: last_of(path.as_bytes()),
             },
         }),
         Err(_) => None,

@@ -235,7 +235,7 @@ fn writers_fail_at_each_call(rt: HostRuntime) -> Result<(), Fail> {
 }
 
 /// Arguments, and the job that they name.
-static JOBS: [(&[&str], Job<'static>); 32] = [
+static JOBS: [(&[&str], Job<'static>); 33] = [
     (&["tacho", "dump"], Job::Dump),
     (&["tacho", "holder"], Job::Holder),
     (&["tacho", "card", "first"], Job::Card { part: "first" }),
@@ -253,6 +253,7 @@ static JOBS: [(&[&str], Job<'static>); 32] = [
                 want: Want::Register,
                 driver: b"",
                 word: b"",
+                time: b"",
             },
         }),
     ),
@@ -264,6 +265,7 @@ static JOBS: [(&[&str], Job<'static>); 32] = [
                 want: Want::Import,
                 driver: b"",
                 word: b"second",
+                time: b"",
             },
         }),
     ),
@@ -275,6 +277,7 @@ static JOBS: [(&[&str], Job<'static>); 32] = [
                 want: Want::Enter,
                 driver: b"17",
                 word: b"",
+                time: b"",
             },
         }),
     ),
@@ -286,6 +289,7 @@ static JOBS: [(&[&str], Job<'static>); 32] = [
                 want: Want::Withdraw,
                 driver: b"17",
                 word: b"3",
+                time: b"",
             },
         }),
     ),
@@ -297,6 +301,7 @@ static JOBS: [(&[&str], Job<'static>); 32] = [
                 want: Want::Base,
                 driver: b"17",
                 word: b"2024-03-11",
+                time: b"",
             },
         }),
     ),
@@ -308,6 +313,7 @@ static JOBS: [(&[&str], Job<'static>); 32] = [
                 want: Want::Key,
                 driver: b"17",
                 word: b"",
+                time: b"",
             },
         }),
     ),
@@ -319,6 +325,7 @@ static JOBS: [(&[&str], Job<'static>); 32] = [
                 want: Want::MonthReading(MonthReading::Spans),
                 driver: b"17",
                 word: b"2024-03",
+                time: b"",
             },
         }),
     ),
@@ -330,6 +337,7 @@ static JOBS: [(&[&str], Job<'static>); 32] = [
                 want: Want::MonthReading(MonthReading::Gaps),
                 driver: b"17",
                 word: b"2024-03",
+                time: b"",
             },
         }),
     ),
@@ -341,6 +349,7 @@ static JOBS: [(&[&str], Job<'static>); 32] = [
                 want: Want::MonthReading(MonthReading::Sheet),
                 driver: b"17",
                 word: b"2024-03",
+                time: b"",
             },
         }),
     ),
@@ -352,6 +361,7 @@ static JOBS: [(&[&str], Job<'static>); 32] = [
                 want: Want::Reading(Reading::Breaches),
                 driver: b"17",
                 word: b"",
+                time: b"",
             },
         }),
     ),
@@ -363,6 +373,7 @@ static JOBS: [(&[&str], Job<'static>); 32] = [
                 want: Want::MonthReading(MonthReading::Why),
                 driver: b"17",
                 word: b"2024-03",
+                time: b"",
             },
         }),
     ),
@@ -374,6 +385,7 @@ static JOBS: [(&[&str], Job<'static>); 32] = [
                 want: Want::Reading(Reading::Owed),
                 driver: b"17",
                 word: b"",
+                time: b"",
             },
         }),
     ),
@@ -385,6 +397,7 @@ static JOBS: [(&[&str], Job<'static>); 32] = [
                 want: Want::Reading(Reading::Entries),
                 driver: b"17",
                 word: b"",
+                time: b"",
             },
         }),
     ),
@@ -396,6 +409,7 @@ static JOBS: [(&[&str], Job<'static>); 32] = [
                 want: Want::File,
                 driver: b"17",
                 word: b"3",
+                time: b"",
             },
         }),
     ),
@@ -407,6 +421,7 @@ static JOBS: [(&[&str], Job<'static>); 32] = [
                 want: Want::Reading(Reading::Files),
                 driver: b"17",
                 word: b"",
+                time: b"",
             },
         }),
     ),
@@ -418,6 +433,7 @@ static JOBS: [(&[&str], Job<'static>); 32] = [
                 want: Want::Drivers,
                 driver: b"",
                 word: b"",
+                time: b"",
             },
         }),
     ),
@@ -429,6 +445,7 @@ static JOBS: [(&[&str], Job<'static>); 32] = [
                 want: Want::Drivers,
                 driver: b"17",
                 word: b"",
+                time: b"",
             },
         }),
     ),
@@ -440,6 +457,7 @@ static JOBS: [(&[&str], Job<'static>); 32] = [
                 want: Want::Reading(Reading::Stretches),
                 driver: b"17",
                 word: b"",
+                time: b"",
             },
         }),
     ),
@@ -451,6 +469,7 @@ static JOBS: [(&[&str], Job<'static>); 32] = [
                 want: Want::Reading(Reading::Debts),
                 driver: b"17",
                 word: b"",
+                time: b"",
             },
         }),
     ),
@@ -462,6 +481,19 @@ static JOBS: [(&[&str], Job<'static>); 32] = [
                 want: Want::Reading(Reading::Form),
                 driver: b"17",
                 word: b"",
+                time: b"",
+            },
+        }),
+    ),
+    (
+        &["tacho", "ahead", "a.db", "17", "2024-03-07", "12:00"],
+        Job::AtDesk(DeskJob {
+            archive: "a.db",
+            wish: Wish {
+                want: Want::Ahead,
+                driver: b"17",
+                word: b"2024-03-07",
+                time: b"12:00",
             },
         }),
     ),
@@ -473,6 +505,7 @@ static JOBS: [(&[&str], Job<'static>); 32] = [
                 want: Want::MonthOfAll(MonthOfAll::Overview),
                 driver: b"",
                 word: b"2024-03",
+                time: b"",
             },
         }),
     ),
@@ -484,6 +517,7 @@ static JOBS: [(&[&str], Job<'static>); 32] = [
                 want: Want::MonthOfAll(MonthOfAll::Incidents),
                 driver: b"",
                 word: b"2024-03",
+                time: b"",
             },
         }),
     ),
@@ -615,6 +649,7 @@ Commands:
   drivers    Prints the drivers, or one of them, one per line: number, holder, base, how many card files and entries, and name
   stretches  Prints a driver's breaches by all examinations, and what isn't examined
   debts      Prints the rest that a driver owes or has paid, by all examinations
+  ahead      Prints how much is left until the limit of each rule if a driver drives on from a minute, and what is used and owed by then
   overview   Prints a month of all drivers as CSV: what is held, how much of it is examined, and how many breaches there are of each rule
   incidents  Prints the breaches of a month of all drivers as CSV
   form       Prints a driver's gaps as CSV, to fill in and enter
@@ -639,6 +674,18 @@ Usage: tacho import ARCHIVE PART < FILE
 Arguments:
   ARCHIVE   The path of the archive
   PART      The blocks of the card file that are read: first (first generation), second (second generation), or both
+";
+
+const HELP_OF_AHEAD: &str = "\
+Prints how much is left until the limit of each rule if a driver drives on from a minute, and what is used and owed by then
+
+Usage: tacho ahead ARCHIVE DRIVER DATE TIME
+
+Arguments:
+  ARCHIVE   The path of the archive
+  DRIVER    The driver's number, 1 to 999999
+  DATE      A day, as 2024-03-07
+  TIME      The time of that day in UTC, as 12:00
 ";
 
 const HELP_OF_DRIVERS: &str = "\
@@ -727,6 +774,7 @@ fn help_lists_commands_and_arguments(rt: HostRuntime) -> Result<(), Fail> {
     assert_same(&rt, help_of(alloc, "dump")?.as_str(), HELP_OF_DUMP);
     assert_same(&rt, help_of(alloc, "import")?.as_str(), HELP_OF_IMPORT);
     assert_same(&rt, help_of(alloc, "drivers")?.as_str(), HELP_OF_DRIVERS);
+    assert_same(&rt, help_of(alloc, "ahead")?.as_str(), HELP_OF_AHEAD);
     Ok(())
 }
 

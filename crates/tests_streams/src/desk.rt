@@ -22,6 +22,7 @@ pub(crate) static CASES: [Case; 4] = [
                 want: Want::Register,
                 driver: b"",
                 word: b"",
+                time: b"",
             },
         }),
         b"driver,holder,key,base,name\n17,0d4431323334353637383930313233,anna-key-1,2024-03-04,Anna Berg\n",
@@ -35,6 +36,7 @@ pub(crate) static CASES: [Case; 4] = [
                 want: Want::Import,
                 driver: b"",
                 word: b"both",
+                time: b"",
             },
         }),
         b"\x05\x20\x00\x00\x11\x0dD123456789012300\x05\x04\x00\x00\x28\x00\x00\x00\x14\x00\x00\x00\x14\x65\xe5\x0f\x00\x00\x01\x00\x64\x00\x00\x11\xe0\x19\xfe\x23\xfc\x00\x14\x00\x10\x65\xe6\x60\x80\x00\x02\x00\x00\x00\x00\x11\xe0",
@@ -48,6 +50,7 @@ pub(crate) static CASES: [Case; 4] = [
                 want: Want::Enter,
                 driver: b"17",
                 word: b"",
+                time: b"",
             },
         }),
         b"start,past,activity\n2024-03-06 00:00,2024-03-06 08:00,rest\n",
@@ -61,6 +64,7 @@ pub(crate) static CASES: [Case; 4] = [
                 want: Want::Key,
                 driver: b"17",
                 word: b"",
+                time: b"",
             },
         }),
         b"anna-key-2\r\n",
@@ -115,6 +119,7 @@ static WITHOUT_INPUT: [Job<'static>; 15] = [
             want: Want::Base,
             driver: b"17",
             word: b"2024-03-04",
+            time: b"",
         },
     }),
     Job::AtDesk(DeskJob {
@@ -123,6 +128,7 @@ static WITHOUT_INPUT: [Job<'static>; 15] = [
             want: Want::MonthReading(MonthReading::Spans),
             driver: b"17",
             word: b"2024-03",
+            time: b"",
         },
     }),
     Job::AtDesk(DeskJob {
@@ -131,6 +137,7 @@ static WITHOUT_INPUT: [Job<'static>; 15] = [
             want: Want::MonthReading(MonthReading::Gaps),
             driver: b"17",
             word: b"2024-03",
+            time: b"",
         },
     }),
     Job::AtDesk(DeskJob {
@@ -139,6 +146,7 @@ static WITHOUT_INPUT: [Job<'static>; 15] = [
             want: Want::MonthReading(MonthReading::Sheet),
             driver: b"17",
             word: b"2024-03",
+            time: b"",
         },
     }),
     Job::AtDesk(DeskJob {
@@ -147,6 +155,7 @@ static WITHOUT_INPUT: [Job<'static>; 15] = [
             want: Want::Reading(Reading::Breaches),
             driver: b"17",
             word: b"",
+            time: b"",
         },
     }),
     Job::AtDesk(DeskJob {
@@ -155,6 +164,7 @@ static WITHOUT_INPUT: [Job<'static>; 15] = [
             want: Want::Reading(Reading::Owed),
             driver: b"17",
             word: b"",
+            time: b"",
         },
     }),
     Job::AtDesk(DeskJob {
@@ -163,6 +173,7 @@ static WITHOUT_INPUT: [Job<'static>; 15] = [
             want: Want::Reading(Reading::Entries),
             driver: b"17",
             word: b"",
+            time: b"",
         },
     }),
     Job::AtDesk(DeskJob {
@@ -171,6 +182,7 @@ static WITHOUT_INPUT: [Job<'static>; 15] = [
             want: Want::File,
             driver: b"17",
             word: b"1",
+            time: b"",
         },
     }),
     Job::AtDesk(DeskJob {
@@ -179,6 +191,7 @@ static WITHOUT_INPUT: [Job<'static>; 15] = [
             want: Want::Withdraw,
             driver: b"17",
             word: b"1",
+            time: b"",
         },
     }),
     Job::AtDesk(DeskJob {
@@ -187,6 +200,7 @@ static WITHOUT_INPUT: [Job<'static>; 15] = [
             want: Want::Drivers,
             driver: b"",
             word: b"",
+            time: b"",
         },
     }),
     Job::AtDesk(DeskJob {
@@ -195,6 +209,7 @@ static WITHOUT_INPUT: [Job<'static>; 15] = [
             want: Want::Reading(Reading::Stretches),
             driver: b"17",
             word: b"",
+            time: b"",
         },
     }),
     Job::AtDesk(DeskJob {
@@ -203,6 +218,7 @@ static WITHOUT_INPUT: [Job<'static>; 15] = [
             want: Want::Reading(Reading::Debts),
             driver: b"17",
             word: b"",
+            time: b"",
         },
     }),
     Job::AtDesk(DeskJob {
@@ -211,6 +227,7 @@ static WITHOUT_INPUT: [Job<'static>; 15] = [
             want: Want::Reading(Reading::Form),
             driver: b"17",
             word: b"",
+            time: b"",
         },
     }),
     Job::AtDesk(DeskJob {
@@ -219,6 +236,7 @@ static WITHOUT_INPUT: [Job<'static>; 15] = [
             want: Want::MonthOfAll(MonthOfAll::Overview),
             driver: b"",
             word: b"2024-03",
+            time: b"",
         },
     }),
     Job::AtDesk(DeskJob {
@@ -227,6 +245,7 @@ static WITHOUT_INPUT: [Job<'static>; 15] = [
             want: Want::MonthOfAll(MonthOfAll::Incidents),
             driver: b"",
             word: b"2024-03",
+            time: b"",
         },
     }),
 ];
@@ -253,6 +272,7 @@ static WRONG_ARGUMENTS: [(Job<'static>, &str); 3] = [
                 want: Want::Import,
                 driver: b"",
                 word: b"whole",
+                time: b"",
             },
         }),
         "P1 bad part\n",
@@ -264,6 +284,7 @@ static WRONG_ARGUMENTS: [(Job<'static>, &str); 3] = [
                 want: Want::Enter,
                 driver: b"017",
                 word: b"",
+                time: b"",
             },
         }),
         "N1 bad number\n",
@@ -275,6 +296,7 @@ static WRONG_ARGUMENTS: [(Job<'static>, &str); 3] = [
                 want: Want::Enter,
                 driver: b"1000000",
                 word: b"",
+                time: b"",
             },
         }),
         "N1 bad number\n",
@@ -420,6 +442,7 @@ pub(crate) const LIST: Job<'static> = Job::AtDesk(DeskJob {
         want: Want::Drivers,
         driver: b"",
         word: b"",
+        time: b"",
     },
 });
 
@@ -435,6 +458,7 @@ fn drivers_are_listed_by_their_numbers(rt: HostRuntime) -> Result<(), Fail> {
                 want,
                 driver: driver.as_bytes(),
                 word: word.as_bytes(),
+                time: b"",
             },
         });
         let (_, status) = answer(rt.alloc(), &mut shelf, job, input)?;

@@ -208,6 +208,7 @@ fn job_of(want: Want, driver: &'static str, word: &'static str) -> Job<'static> 
             want,
             driver: driver.as_bytes(),
             word: word.as_bytes(),
+            time: b"",
         },
     })
 }
@@ -236,6 +237,88 @@ fn assert_answered(
         "{want:?} of {driver} and {word}"
     );
     assert!(rt; status == wanted, "{want:?} of {driver} and {word}");
+    Ok(())
+}
+
+/// The driver's number, a day, a time, and the expected text and status of the forecast.
+static FORECASTS: [(&str, &str, &str, &str, u8); 9] = [
+    (
+        "17",
+        "2024-03-11",
+        "11:00",
+        "\
+FROM 2024-03-11
+EXAMINED TO 2024-03-11 11:00 unknown
+START 2024-03-11 11:00
+REST SINCE 2024-03-11 11:00
+DAY SINCE 2024-03-11 07:00
+REDUCED 0
+EXTENDED 0
+DRIVEN 2024-03-04 0:00
+DRIVEN 2024-03-11 4:00
+B1 Art 7 until 2024-03-11 11:30 left 0:30
+B2 Art 8(2) until 2024-03-11 22:00 left 11:00
+B4 Art 6(1) until 2024-03-11 17:00 left 6:00
+B6 Art 6(2) until 2024-03-13 15:00 left 52:00
+B7 Art 6(3) until 2024-03-15 01:00 left 86:00
+B8 Art 8(6) until 2024-03-17 07:00 left 140:00
+B9 Art 8(6) until 2024-03-24 23:59 left 324:59
+",
+        0,
+    ),
+    (
+        "5",
+        "2024-03-11",
+        "12:00",
+        "\
+FROM 2024-03-11
+EXAMINED TO 2024-03-11 00:00 unknown
+START 2024-03-11 12:00
+REST SINCE -
+DAY SINCE 2024-03-11 12:00
+REDUCED 0
+EXTENDED 0
+DRIVEN 2024-03-04 0:00
+DRIVEN 2024-03-11 0:00
+B1 Art 7 until 2024-03-11 16:30 left 4:30
+B2 Art 8(2) until 2024-03-12 03:00 left 15:00
+B4 Art 6(1) until 2024-03-11 22:00 left 10:00
+B6 Art 6(2) until 2024-03-13 20:00 left 56:00
+B7 Art 6(3) until 2024-03-15 06:00 left 90:00
+B8 Art 8(6) until 2024-03-17 12:00 left 144:00
+B9 Art 8(6) until 2024-03-24 23:59 left 323:59
+",
+        0,
+    ),
+    ("17", "2024-03-11", "7:00", "Z1 not of the shape\n", 1),
+    ("17", "2024-02-30", "07:00", "Z2 no such date\n", 1),
+    ("17", "2024-03-11", "24:00", "Z2 no such date\n", 1),
+    ("17", "1999-12-31", "07:00", "Z3 out of range\n", 1),
+    ("5", "2099-10-29", "13:00", "Z3 out of range\n", 1),
+    ("6", "2024-03-11", "07:00", "S4 unknown driver\n", 1),
+    ("0", "2024-03-11", "7:00", "N1 bad number\n", 1),
+];
+
+#[test]
+fn a_forecast_is_of_a_minute(rt: HostRuntime) -> Result<(), Fail> {
+    let mut shelf = archive_of_two(rt.alloc())?;
+    for (driver, word, time, text, wanted) in FORECASTS {
+        let job = Job::AtDesk(DeskJob {
+            archive: "a.db",
+            wish: Wish {
+                want: Want::Ahead,
+                driver: driver.as_bytes(),
+                word: word.as_bytes(),
+                time: time.as_bytes(),
+            },
+        });
+        let (written, status) = answer(rt.alloc(), &mut shelf, job, b"")?;
+        assert!(rt;
+            written.as_slice() == text.as_bytes(),
+            "of {driver}, {word} {time}"
+        );
+        assert!(rt; status == wanted, "of {driver}, {word} {time}");
+    }
     Ok(())
 }
 

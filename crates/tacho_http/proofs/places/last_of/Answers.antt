@@ -1,7 +1,7 @@
 use Rattle.std.proofs.Common.{◌∙◌, ◌+◌, ◌-◌, length, drop, arith}
 use Rattle.std.proofs.lemmas.List.{length-drop, take_all}
 use Rattle.tacho_http.proofs.PartLemmas.{after_last, last_whole}
-use Rattle.tacho_http.proofs.places.word_of.Goals as goal
+use Rattle.tacho_http.proofs.places.last_of.Goals as goal
 
 pub returns-in-Some : goal.returns-in-Some
 returns-in-Some c =
