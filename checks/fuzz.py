@@ -46,6 +46,8 @@ KEPT = [
     (LINES, b"breaches PATH 17 --", "two hyphens after the values"),
     (LINES, b"drivers help", "a path that is a command's name"),
     (LINES, f"register PATH\n{DRIVER_HEAD}18,{HOLDER},bert-key-1,2024-03-04,Bert".encode(), "a card's holder that another driver has"),
+    (LINES, f"register PATH\n{DRIVER_HEAD}18,{HOLDER[:-1]}4,bert-key-1,2024-03-05,Bert".encode(), "a base on a Tuesday"),
+    (LINES, b"enter -- PATH 18\nstart,past,activity,author,note\n", "two hyphens before the path, and a sentence on standard error"),
     (LINES, b"key PATH 17\nanna-key-1\r\n", "a driver's own key"),
     (REQUESTS, b"\n\r\nGET /drivers/17/breaches HTTP/1.0\nX-KEY:office-key-1\n\r\n\0GET", "ends of lines of both forms"),
 ]

@@ -49,11 +49,12 @@ def without_sentence(path: bytes, text: bytes, status: int, errors: bytes) -> by
 
 
 def without_advice(words: Sequence[str | bytes], text: bytes, status: int, errors: bytes) -> bytes:
-    """The same of a program with these arguments."""
+    """The same of a program with these arguments. Two hyphens may stand before the archive's path."""
     bytes_of = [word.encode(errors="surrogateescape") if isinstance(word, str) else word for word in words]
     if len(bytes_of) < 3 or bytes_of[1] in WITHOUT:
         return errors
-    return without_sentence(bytes_of[2], text, status, errors)
+    path = bytes_of[3] if bytes_of[2] == b"--" and len(bytes_of) > 3 else bytes_of[2]
+    return without_sentence(path, text, status, errors)
 
 
 def without_any(words: Sequence[str], errors: bytes) -> bytes:
