@@ -14,7 +14,7 @@ from inputs import hard_timelines, random_cards
 from inputs.random_commands import date_text, driver_csv, rows_csv, rows_of
 from lib import counting, pools, seeds
 from lib.files import TOP, read
-from lib.readings import FOLDER, steps_of
+from lib.readings import FOLDER, steps_of, words_of
 from lib.script import of_commands
 from slow import slow_office
 from slow.slow_office import Command
@@ -39,7 +39,7 @@ def of_case(case: str) -> counting.Comparisons:
     for words, given, _ in steps_of(case):
         office.answer(words, given)
     for name in names:
-        told, _ = office.answer(name.split("-", 2))
+        told, _ = office.answer(words_of(name))
         yield f"{case}: {name}", told.decode().splitlines(), read(os.path.join(expected, name)).decode().splitlines()
 
 

@@ -75,6 +75,9 @@ NO_COMMANDS = [
     ["breaches", "PATH", "17", "2024-03"],
     ["owed", "PATH"],
     ["owed", "PATH", "17", "2024-03"],
+    ["ahead", "PATH", "17", "2024-03-05"],
+    ["ahead", "PATH", "17", "2024-03-05 12:00"],
+    ["ahead", "PATH", "17", "2024-03-05", "12:00", "1"],
     ["entries", "PATH"],
     ["entries", "PATH", "17", "1"],
     ["file", "PATH", "17"],
@@ -191,6 +194,7 @@ KINDS = {
     "part": ("both", "1", b"P1 bad part\n"),
     "date": ("2024-03-04", "2024-02-30", b"Z2 no such date\n"),
     "month": ("2024-03", "2024-13", b"Z2 no such date\n"),
+    "time": ("12:00", "24:00", b"Z2 no such date\n"),
 }
 
 

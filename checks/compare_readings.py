@@ -1,6 +1,6 @@
 #!/usr/bin/env python3
-"""Compares the readings of stretches, of a month of all drivers, of a month's chart, of the evidence for its breaches, of card files and of
-the form for gaps with expected outputs and with the slow office.
+"""Compares the readings of stretches, of a month of all drivers, of a month's chart, of the evidence for its breaches, of card files, of
+forecasts and of the form for gaps with expected outputs and with the slow office.
 
 The folders of checks/readings have commands, their input files, and what the readings print after them, computed by a program that shares
 no code with this repository. Of a chart they have the lines of lib/charts.py. Then come random archives of two drivers: weeks with gaps and
@@ -16,7 +16,8 @@ from typing import Any
 from inputs import random_cards
 from inputs.random_commands import KEYS, date_text, driver_csv
 from lib import charts, counting, files, pools, seeds
-from lib.readings import FOLDER, steps_of
+from lib.advice import without_advice
+from lib.readings import FOLDER, steps_of, words_of
 from lib.script import of_commands
 from slow import slow_office, slow_reader
 
@@ -42,14 +43,14 @@ def of_case(program, case):
 
         def told(words, given=b""):
             run = subprocess.run([program, words[0], path, *words[1:]], input=given, capture_output=True)
-            return run.stdout, run.stderr
+            return run.stdout, without_advice(run.args, run.stdout, run.returncode, run.stderr)
 
         yield f"{case}: a new archive", told(["init"]), (b"created\n", b"")
         for words, given, answer in steps_of(case):
             yield f"{case}: {' '.join(words)}", told(words, given), (f"{answer}\n".encode(), b"")
         expected = os.path.join(FOLDER, case, "expected")
         for name in sorted(os.listdir(expected)):
-            words = name.split("-", 2 if name.startswith(("chart-", "why-")) else 1)
+            words = words_of(name)
             text, fault = told(words)
             shown = charts.lines_of(text).encode() if words[0] == "chart" else text
             yield f"{case}: {name}", (shown, fault), (files.read(os.path.join(expected, name)), b"")
@@ -158,6 +159,7 @@ def commands_of(seed):
             add(["stretches", number], b"")
             add(["debts", number], b"")
             add(["files", number], b"")
+            add(["ahead", number, f"{max(months)}-01", "12:00"], b"")
             forms.append((number, add(["form", number], b"")))
         for month in sorted(months):
             for number in map(str, NUMBERS):

@@ -96,6 +96,15 @@ def chart_of(number):
 
 
 SHOWN = "  break - 2024-03-04 08:00 -\n  drive 2024-03-04 08:30 2024-03-04 17:00 8:30 8:30\n  break 2024-03-04 17:00 - -\n"
+FORECAST = (
+    "FROM 2024-02-05\nEXAMINED TO 2024-02-05 00:00 unknown\nSTART 2024-03-05 12:00\nREST SINCE -\nDAY SINCE 2024-03-05 12:00\n"
+    "REDUCED 0\nEXTENDED 0\nDRIVEN 2024-02-26 0:00\nDRIVEN 2024-03-04 0:00\n"
+    "B1 Art 7 until 2024-03-05 16:30 left 4:30\nB2 Art 8(2) until 2024-03-06 03:00 left 15:00\n"
+    "B4 Art 6(1) until 2024-03-05 22:00 left 10:00\nB6 Art 6(2) until 2024-03-07 20:00 left 56:00\n"
+    "B7 Art 6(3) until 2024-03-09 06:00 left 90:00\nB8 Art 8(6) until 2024-03-11 12:00 left 144:00\n"
+    "B9 Art 8(6) until 2024-03-17 23:59 left 299:59\n"
+)
+MINUTE = "2024-03-05/12:00"
 MISSING = b"2024-03-04 17:00,2024-03-05 00:00,,,\n2024-03-05 08:00,2024-03-09 00:00,,,\n"
 OF_ANNA = {
     "stretches": f"FROM 2024-03-04\n{BREACH}{EXAMINED}{UNSEEN}",
@@ -103,6 +112,7 @@ OF_ANNA = {
     "files": f"1 both 67 2024-03-04 00:00 2024-03-05 08:00 {hashlib.sha256(DAY).hexdigest()}\n",
     "form": SIGNED_HEAD + MISSING,
     f"why/{MONTH}": BREACH + SHOWN,
+    f"ahead/{MINUTE}": f"FROM 2024-03-04\n{EXAMINED}{UNSEEN}",
     f"chart/{MONTH}": chart_of("17"),
 }
 NOTHING_EXAMINED = "FROM 2024-02-05\nEXAMINED TO 2024-02-05 00:00 unknown\n"
@@ -112,6 +122,7 @@ OF_BERT = {
     "files": "",
     "form": SIGNED_HEAD,
     f"why/{MONTH}": "",
+    f"ahead/{MINUTE}": FORECAST,
     f"chart/{MONTH}": chart_of("18"),
 }
 WITH_NUMBER = [f"/drivers/17/{end}" for end in OF_ANNA]
@@ -148,6 +159,24 @@ def bad_months(path, key):
     """The rows of a path's end with arguments that are no month, in the place of one."""
     faults = {"2024-3": "Z1 not of the shape", "2024-13": "Z2 no such date", "1999-12": "Z3 out of range", "2100-01": "Z3 out of range"}
     return [row(f"GET {path.replace(MONTH, text)}", key, line("400 Bad Request", len(fault) + 1, fault)) for text, fault in faults.items()]
+
+
+# What follows `ahead` in a path that isn't one.
+NO_MINUTES = ["", "/", "/2024-03-05", "/2024-03-05/", "//12:00", "/2024-03-05/12:00/", "/2024-03-05/12/00", "/2024/03/05/12:00"]
+
+# By the end of a path: the fault of a minute.
+BAD_MINUTES = {
+    "2024-3-5/12:00": "Z1 not of the shape", "2024-03-05/9:00": "Z1 not of the shape", "2024-03-05/1200": "Z1 not of the shape",
+    "2024-02-30/9:00": "Z1 not of the shape", "2024-03-05/12:00:00": "Z1 not of the shape", "2024-03-05/12%3A00": "Z1 not of the shape",
+    "12:00/2024-03-05": "Z1 not of the shape", "2024-02-30/12:00": "Z2 no such date", "2024-03-05/24:00": "Z2 no such date",
+    "2024-03-05/12:60": "Z2 no such date", "2100-02-30/12:00": "Z2 no such date", "2000-01-02/23:59": "Z3 out of range",
+    "2100-01-01/00:00": "Z3 out of range",
+}
+
+
+def bad_minutes(path, key):
+    """The rows of a path with arguments after it that are no minute."""
+    return [row(f"GET {path}/{end}", key, line("400 Bad Request", len(fault) + 1, fault)) for end, fault in BAD_MINUTES.items()]
 
 
 # In the archives of these rows there is no driver; in the others there is Anna.
@@ -217,9 +246,11 @@ ROWS = {
     ],
     "paths near what can be read": [
         *[row(f"GET {path}/", OFFICE, NOT_FOUND) for path in [*FOR_OFFICE, *WITHOUT_NUMBER]],
-        *[row(f"GET {path}?all", OFFICE, NOT_FOUND) for path in FOR_OFFICE if MONTH not in path],
-        *[row(f"GET {path.removesuffix(MONTH)}", OFFICE, NOT_FOUND) for path in FOR_OFFICE if MONTH in path],
-        *[row(f"GET {path.removesuffix(f'/{MONTH}')}", DRIVER, NOT_FOUND) for path in [*FOR_OFFICE, *WITHOUT_NUMBER] if MONTH in path],
+        *[row(f"GET {path}?all", OFFICE, NOT_FOUND) for path in FOR_OFFICE if not path.endswith((MONTH, MINUTE))],
+        *[row(f"GET {path.removesuffix(MONTH)}", OFFICE, NOT_FOUND) for path in FOR_OFFICE if path.endswith(MONTH)],
+        *[row(f"GET {path.removesuffix(f'/{MONTH}')}", DRIVER, NOT_FOUND)
+          for path in [*FOR_OFFICE, *WITHOUT_NUMBER] if path.endswith(MONTH)],
+        *[row(f"GET {who}/ahead{end}", key, NOT_FOUND) for who, key in (("/drivers/17", OFFICE), ("/me", DRIVER)) for end in NO_MINUTES],
         *[row(f"GET {path.replace('17', '')}", OFFICE, NOT_FOUND) for path in WITH_NUMBER],
         *[row(f"GET /me{path}", DRIVER, NOT_FOUND) for path in OF_ALL],
         *[row(f"GET /drivers/17{path}", OFFICE, NOT_FOUND) for path in OF_ALL],
@@ -231,8 +262,15 @@ ROWS = {
         WITH_DAY,
         *[row(f"GET {path.replace('17', text)}", OFFICE, BAD_NUMBER) for path in WITH_NUMBER for text in ["017", "0", "1000000", "%31%37"]],
         *[row(f"GET {path.replace('17', '18')}", OFFICE, line("404 Not Found", 18, "S4 unknown driver")) for path in WITH_NUMBER],
-        *[bad for path in FOR_OFFICE if MONTH in path for bad in bad_months(path, OFFICE)],
-        *[bad for path in WITHOUT_NUMBER if MONTH in path for bad in bad_months(path, DRIVER)],
+        *[bad for path in FOR_OFFICE if path.endswith(MONTH) for bad in bad_months(path, OFFICE)],
+        *[bad for path in WITHOUT_NUMBER if path.endswith(MONTH) for bad in bad_months(path, DRIVER)],
+        *bad_minutes("/drivers/17/ahead", OFFICE),
+        *bad_minutes("/me/ahead", DRIVER),
+        row("GET /drivers/0/ahead/2024-02-30/9:00", OFFICE, BAD_NUMBER),
+        row("GET /drivers/18/ahead/2024-02-30/12:00", OFFICE, NO_DATE),
+        row("GET /drivers/18/ahead/2099-12-31/23:59", OFFICE, line("404 Not Found", 18, "S4 unknown driver")),
+        row("GET /drivers/18/ahead/2024-03-05/24:00", DRIVER, FORBIDDEN),
+        row("GET /me/ahead/2024-03-05/12:00?all", DRIVER, line("400 Bad Request", 20, "Z1 not of the shape")),
         *[row(f"GET /drivers/0/{word}/2024-13", OFFICE, BAD_NUMBER) for word in ["why", "chart"]],
         *[row(f"GET /drivers/18/{word}/2024-13", OFFICE, NO_DATE) for word in ["why", "chart"]],
         *[row(f"GET /drivers/18/{word}/2024-13", DRIVER, FORBIDDEN) for word in ["why", "chart"]],

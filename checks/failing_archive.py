@@ -62,6 +62,7 @@ CASES = {
     "drivers": ([*WITH_HOURS, OTHER], (["drivers"], b"")),
     "stretches": ([*WITH_HOURS, GAP], (["stretches", "17"], b"")),
     "evidence": ([*WITH_HOURS, GAP], (["why", "17", "2024-03"], b"")),
+    "a forecast": ([*WITH_HOURS, GAP], (["ahead", "17", "2024-03-11", "12:00"], b"")),
     "debts": ([*WITH_HOURS, GAP], (["debts", "17"], b"")),
     "an overview": ([*WITH_HOURS, GAP, OTHER], (["overview", "2024-03"], b"")),
     "incidents": ([*WITH_HOURS, GAP, OTHER], (["incidents", "2024-03"], b"")),

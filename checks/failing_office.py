@@ -52,6 +52,7 @@ CASES = {
     "a sound archive": ([*WITH_GAP, SIGNED, OTHER], (["check"], b"")),
     "an unsound archive": (UNSOUND, (["check"], b"")),
     "stretches": (WITH_GAP, (["stretches", "17"], b"")),
+    "a forecast": (WITH_GAP, (["ahead", "17", "2024-03-11", "12:00"], b"")),
     "debts": (WITH_GAP, (["debts", "17"], b"")),
     "an overview": ([*WITH_GAP, OTHER], (["overview", "2024-03"], b"")),
     "incidents": ([*WITH_GAP, OTHER], (["incidents", "2024-03"], b"")),

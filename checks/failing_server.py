@@ -41,6 +41,7 @@ CASES = {
     "a file": Case(WITH_HOURS, asking("GET /me/files/1", DRIVER)),
     "all files": Case(WITH_HOURS, asking("GET /drivers/17/files", OFFICE)),
     "evidence": Case(WITH_HOURS, asking("GET /me/why/2024-03", DRIVER)),
+    "a forecast": Case(WITH_HOURS, asking("GET /me/ahead/2024-03-11/12:00", DRIVER)),
     "a chart": Case(WITH_HOURS, asking("GET /drivers/17/chart/2024-03", OFFICE)),
     "an overview": Case(WITH_HOURS, asking("GET /overview/2024-03", OFFICE)),
     "a bad month": Case(WITH_HOURS, asking("GET /me/sheet/2024-13", DRIVER)),

@@ -197,6 +197,7 @@ def of_worked(program, name):
 def readings_of(driver, months):
     """The readings of a driver: the arguments of each."""
     words = [f"{word} {{}} {month}" for word in ["spans", "gaps", "sheet", "chart", "why"] for month in months]
+    words += [f"ahead {{}} {months[-1]}-05 12:00"]
     words += ["breaches {}", "owed {}", "entries {}", "files {}", "file {} 1", "file {} 2", "withdraw {} 1"]
     return [text.format(driver).split(" ") for text in words]
 

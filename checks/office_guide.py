@@ -331,6 +331,7 @@ def weeks(office):
     yield "a driver's row", office.read("overview-2024-03.csv").splitlines()[1], "17,Anna Berg,960,0,30,510,0,43140,1020,1" + 9 * ",0"
     yield "the incidents", office.read("incidents-2024-03.csv"), office.told("incidents", "2024-03")
     yield from crews(office)
+    yield from mornings(office)
     yield from twins(office)
     office.save("start,past,activity\n2024-03-09")
     yield office.typed("tacho enter archive.db 17 < hours.csv", "entered 1 to 2\n")
@@ -372,6 +373,41 @@ def crews(office):
         yield "the same of the page", page().count("`S6 contradiction at 2024-03-04 08:30`"), 1
         yield "the stretches of the page", office.told("stretches", "17"), office.block("FROM 2024-02-26")
         yield "the base that isn't moved", office.told("drivers"), f"17 {HOLDER} 2024-02-26 1 4 Anna Berg\n"
+
+
+# Monday, 4 March 2024, in minutes.
+MONDAY = 19_786 * 1440
+
+
+def rows_of(done):
+    """The hours of what was done from that Monday on, with rest between: the days are of March, and the hours of the day."""
+    rows, place = [], MONDAY
+    for day, start, past, activity in done:
+        start, past = (MONDAY + 1440 * (day - 4) + round(60 * hour) for hour in (start, past))
+        rows += [(place, start, "rest")] if place < start else []
+        rows.append((start, past, activity))
+        place = past
+    return rows
+
+
+# Three long days from that Monday, 4 March 2024, each after a reduced daily rest, and the morning of the fourth: hours of the day.
+LONG_DAYS = [*[(day, 6, 21, "work") for day in (4, 5, 6)], (7, 6, 12, "work")]
+
+
+def mornings(office):
+    """A forecast, and what is reported once the driver has driven on up to its first limit, and a minute more."""
+    with another_archive(office, "mornings"):
+        rows = rows_of(LONG_DAYS)
+        yield "three long days", office.told("enter", "17", given=hours_csv(rows)), f"entered 1 to {len(rows)}\n"
+        forecast = office.block("FROM 2024-03-04\nEXAMINED TO 2024-03-07 12:00")
+        yield office.typed("tacho ahead archive.db 17", forecast)
+        yield "the first limit of the page", "\nB1 Art 7 until 2024-03-07 16:30 left 4:30\n" in forecast, True
+        for past, told in (("16:30", []), ("16:31", ["B1 Art 7 at 2024-03-07 16:30 since 2024-03-07 12:00 amount 1\n"])):
+            number = office.told("entries", "17").count("\n") + 1
+            row = f"start,past,activity\n2024-03-07 12:00,2024-03-07 {past},drive\n".encode()
+            yield f"driving up to {past}", office.told("enter", "17", given=row), f"entered {number} to {number}\n"
+            yield f"what is reported at {past}", office.told("breaches", "17").splitlines(keepends=True)[:-1], told
+            office.told("withdraw", "17", str(number))
 
 
 def forms(office):
@@ -527,8 +563,8 @@ def inspection(office):
     yield "whether some card files are of March and others aren't", 0 < len(wanted) < len(lines), True
 
 
-# What the page and docs/RULES.md say of a rest that is too short by ten minutes, and of leave: what was done, from Monday, 4 March
-# 2024, with rest between. Times are days of March and hours of the day; the 32nd is 1 April.
+# What the page and docs/RULES.md say of a rest that is too short by ten minutes, and of leave: what was done from the same Monday. The
+# 32nd of March is 1 April.
 SHORT_REST = [
     (4, 6, 10, "drive"), (4, 10.75, 14.75, "drive"),
     (4, 23 + 35 / 60, 27 + 35 / 60, "drive"), (5, 4 + 20 / 60, 8 + 20 / 60, "drive"),
@@ -547,14 +583,8 @@ def letters(office):
 
 def report_of(office, number, key, digit, done, last):
     """The breaches of a new driver who has done this, up to the end of a day of March."""
-    base = 19_786 * 1440
-    rows, place = [], base
-    for day, start, past, activity in done:
-        start, past = (base + 1440 * (day - 4) + round(60 * hour) for hour in (start, past))
-        rows += [(place, start, "rest")] if place < start else []
-        rows.append((start, past, activity))
-        place = past
-    rows.append((place, base + 1440 * (last - 3), "rest"))
+    rows = rows_of(done)
+    rows.append((rows[-1][1], MONDAY + 1440 * (last - 3), "rest"))
     told = office.told("register", given=driver_like_anna(number, key, digit)) + office.told("enter", str(number), given=hours_csv(rows))
     yield f"the hours of driver {number}", told, f"registered {number}\nentered 1 to {len(rows)}\n"
     return office.told("breaches", str(number)).splitlines(keepends=True)[:-1]
@@ -649,7 +679,7 @@ def keys(office):
 
 def asked_month(office):
     """A month by requests: what is printed and what is saved are what the commands print of the same archive."""
-    told = [office.told(*words.split()) for words in ("drivers", "stretches 17", "why 17 2024-03")]
+    told = [office.told(*words.split()) for words in ("drivers", "stretches 17", "why 17 2024-03", "ahead 17 2024-03-07 12:00")]
     yield office.typed("curl -H @office.head -o overview.csv", "".join(told))
     for name, words in (("overview.csv", "overview 2024-03"), ("incidents.csv", "incidents 2024-03"), ("17.svg", "chart 17 2024-03")):
         yield f"{name} of the service", office.read(name), office.told(*words.split())

@@ -89,8 +89,8 @@ def statuses(program: str) -> list[int]:
 
 
 def in_braces(path: str) -> str:
-    """The path of the slow server with the names of the table for what is in braces: the driver, and the other argument."""
-    return re.sub(r"\{(?!driver\})\w+\}", "{word}", path.replace("/drivers/{n}", "/drivers/{driver}"))
+    """The path of the slow server with the names of the table for what is in braces: the driver, a time, and the other argument."""
+    return re.sub(r"\{(?!driver\}|time\})\w+\}", "{word}", path.replace("/drivers/{n}", "/drivers/{driver}"))
 
 
 def man_page(program: str) -> Comparisons:
@@ -151,8 +151,8 @@ def requests_in(item: str) -> set[tuple[str, str]]:
 
 def place_of(path: str) -> str:
     """A path of examples with names of its variable parts."""
-    path = path.replace("/17", "/{driver}").replace("/both", "/{word}")
-    return re.sub(r"/\d[\d-]*$", "/{word}", path)
+    path = path.replace("/17", "/{driver}").replace("/both", "/{word}").replace("/12:00", "/{time}")
+    return re.sub(r"/\d[\d-]*(?=$|/\{time\})", "/{word}", path)
 
 
 def lists_in_documents() -> Comparisons:

@@ -42,6 +42,7 @@ TITLES = {
     "tacho_rules": "the rules on driving and rest hours",
     "tacho_stretches": "what is examined after a horizon",
     "tacho_evidence": "the evidence for a breach",
+    "tacho_ahead": "forecasts",
     "tacho_state": "an archive's state, and the contract of an archive",
     "tacho_sheet": "CSV that comes in, texts that go out",
     "tacho_desk": "what is done at an archive",

@@ -30,7 +30,7 @@ Order = collections.namedtuple("Order", "reader question roots left steps")
 LAWYER = Order(
     "A lawyer",
     "which rules are checked, and of which minutes? docs/RULES.md has them in prose, with the Articles",
-    ("tacho_rules::", "tacho_stretches::", "tacho_evidence::"),
+    ("tacho_rules::", "tacho_stretches::", "tacho_evidence::", "tacho_ahead::"),
     (),
     (
         ("what a report is", "tacho_rules: Report"),
@@ -42,6 +42,7 @@ LAWYER = Order(
         ("the week in which a weekly rest is counted, and where no choice of weeks serves", "tacho_law: Choice Anew"),
         ("the breaches B1 to B10, each once, all of them and in order", "tacho_law: Breaches Exactly Order"),
         ("the evidence for a breach: what a person needs to check it", "tacho_evidence: Driven Evidence OfReport"),
+        ("what is left until the limit of each rule, and what is used", "tacho_ahead: Plans Ahead Used Outlook"),
         ("where an examination begins again, and what isn't examined", "tacho_stretches: Start Stretches Ranges Near"),
         ("two laws: choices of weeks by outcomes, and payment of debts rest by rest",
          "tacho_choice: Counted Step Weeks Laws; tacho_law: ByRuns"),
@@ -84,7 +85,7 @@ AUDITOR = Order(
         LAWYER,
         ("texts that come in and go out",
          "tacho_time: Text Reading Calendar; tacho_sheet: Rows Words Entries Driver Number Key Text Reports Done Lines"
-         " Stretches Months Form Chart Evidence Why"),
+         " Stretches Months Form Chart Evidence Why Ahead"),
         ("the program's arguments, and what it does without an archive and at one",
          "tacho_cli: Words Asked Office Files Listen Command Dump Card Holder Version Fault"),
         ("the rest: streams, out of memory, and terms of spans and lines",

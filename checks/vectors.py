@@ -16,7 +16,7 @@ import tempfile
 from collections.abc import Callable, Iterable, Iterator
 from typing import Any
 
-from inputs import vector_cards, vector_requests, vector_stretches, vector_texts, vector_timelines
+from inputs import vector_ahead, vector_cards, vector_requests, vector_stretches, vector_texts, vector_timelines
 from lib import changes, counting, files, other_choices, programs, same_changes, script, vector_changes, vector_sets, wrong_readings
 from lib.vector_sets import SLOW, Case, Made
 
@@ -24,7 +24,7 @@ run = vector_sets.runner()
 
 MAKERS: dict[str, Callable[[], list[Made]]] = {
     "words": vector_cards.words, "chains": vector_cards.chains, "files": vector_cards.card_files, "timelines": vector_timelines.timelines,
-    "stretches": vector_stretches.stretches, "csv": vector_texts.texts, "http": vector_requests.requests,
+    "stretches": vector_stretches.stretches, "ahead": vector_ahead.forecasts, "csv": vector_texts.texts, "http": vector_requests.requests,
 }
 LARGEST = 4_000_000  # bytes of the folder
 LONGEST_WHY = 260
@@ -214,8 +214,8 @@ def asked_together(program: list[str], questions: dict[str, Any]) -> dict[str, A
 
 
 def of_archives(tool: str) -> counting.Comparisons:
-    """The comparisons of stretches and of hours by CSV, all in one archive each, and of drivers by CSV, each in one of its own."""
-    for name in ("stretches", "csv"):
+    """The comparisons of stretches, of forecasts and of hours by CSV, all in one archive each, and of drivers by CSV, each in one of its own."""
+    for name in ("stretches", "ahead", "csv"):
         cases = {case["id"]: case for case in vector_sets.cases_in(name)}
         apart = [identifier for identifier, case in cases.items() if case["input"].get("of") == "driver"]
         asked = {identifier: run.QUESTIONS[name](case["input"], number) for number, (identifier, case) in enumerate(cases.items(), 1)}
@@ -299,7 +299,8 @@ def of_changes(of: int) -> counting.Comparisons:
     needed = {one for cases in listed.values() for one in cases}
     for program, sets in vector_changes.SETS_OF.items():
         cases = known_cases(sets)
-        yield f"cases of {program} that no change needs", sorted(cases.keys() - needed), []
+        unneeded = [one for one in sorted(cases.keys() - needed) if not vector_changes.is_apart(cases[one][1])]
+        yield f"cases of {program} that no change needs", unneeded, []
         for place, change in enumerate(vector_changes.changes_of(program)):
             name = change.name
             noticing = [one for one in listed.get((f"slow_{program}", *change.change, change.turn), []) if one in cases]

@@ -10,6 +10,7 @@ The program speaks the command line of docs/FORMATS.md, of which these commands 
     files           holder < CARD, card PART < CARD
     timelines       init ARCHIVE, register ARCHIVE < CSV, import ARCHIVE both < CARD, breaches ARCHIVE N, owed ARCHIVE N
     stretches       init, register and import as above, stretches ARCHIVE N, debts ARCHIVE N
+    ahead           init, register and import as above, ahead ARCHIVE N DATE TIME
     csv             init ARCHIVE, register ARCHIVE < CSV, enter ARCHIVE N < CSV, entries ARCHIVE N, drivers ARCHIVE
     http            init ARCHIVE, serve ARCHIVE KEY PORT COUNT
 
@@ -38,7 +39,7 @@ from collections.abc import Generator, Iterator
 from typing import Any
 
 FOLDER = os.path.dirname(os.path.abspath(__file__))
-SETS = ["words", "chains", "files", "timelines", "stretches", "csv", "http"]
+SETS = ["words", "chains", "files", "timelines", "stretches", "ahead", "csv", "http"]
 EPOCH = datetime.datetime(1970, 1, 1)
 ACTIVITIES = ["rest", "available", "work", "drive"]
 OFFICE_KEY = "office-key-1"
@@ -122,6 +123,45 @@ def stretches_in(breaches: str, debts: str) -> Answer:
             stretch["not_examined"] = [minute_of(unseen[1]), minute_of(unseen[2])]
         found.append(stretch)
     return {"stretches": found}
+
+
+LIMIT = re.compile(r"(B\d+) Art (\S+) until (.{16}) left (\d+):(\d\d)\n")
+DRIVEN = re.compile(r"DRIVEN (.{10}) (\d+):(\d\d)\n")
+USED = re.compile(r"START (.{16})\nREST SINCE (-|.{16})\nDAY SINCE (.{16})\nREDUCED (\d+)\nEXTENDED (\d+)\n")
+
+
+def limits_in(text: str, start: int) -> list[Answer]:
+    """The limits of a forecast. What is left has to be the time up to the limit."""
+    found = []
+    for rule, article, until, hours, minutes in LIMIT.findall(text):
+        if start + int(hours) * 60 + int(minutes) != minute_of(until):
+            raise ValueError(f"{rule}: not what is left until {until}")
+        found.append({"rule": rule, "article": article, "until": minute_of(until)})
+    return found
+
+
+def forecast_in(text: str, status: int) -> Answer:
+    """A forecast from what `ahead` prints, or what isn't examined, or a fault."""
+    if status:
+        return fault_in(text)
+    report = report_in(text)
+    where = {"monday": minute_of(text[5:15]), "horizon": report["horizon"], "cause": report["cause"]}
+    unseen = re.search(r"NOT EXAMINED (.{16}) (.{16})", text)
+    if unseen:
+        return {**where, "not_examined": [minute_of(unseen[1]), minute_of(unseen[2])]}
+    start, rested, day, reduced, extended = USED.findall(text)[0]
+    return {
+        **where,
+        "start": minute_of(start),
+        "rest_since": None if rested == "-" else minute_of(rested),
+        "day_since": minute_of(day),
+        "reduced": int(reduced),
+        "extended": int(extended),
+        "driven": [[minute_of(week), int(hours) * 60 + int(minutes)] for week, hours, minutes in DRIVEN.findall(text)],
+        "coming": report["breaches"],
+        "debts": report["debts"],
+        "limits": limits_in(text, minute_of(start)),
+    }
 
 
 ENTRY = re.compile(r'\d+ (.{16}) (.{16}) (\w+) kept "(.*)" "(.*)"')
@@ -209,11 +249,16 @@ def ask_file(given: Given, number: int) -> Question:
     return {"identification": held, "activity": spans_in(*(yield ["card", given["part"]], file))}
 
 
-def ask_archive(given: Given, number: int, readings: list[str]) -> Generator[Command, Told, tuple[str, str]]:
-    """About a timeline: what two readings print."""
+def make_archive(given: Given, number: int) -> Generator[Command, Told, None]:
+    """A driver with a timeline."""
     yield ["register"], driver_csv(number, given["base"])
     if given["spans"]:
         yield ["import", "both"], card_of(number, given["spans"])
+
+
+def ask_archive(given: Given, number: int, readings: list[str]) -> Generator[Command, Told, tuple[str, str]]:
+    """About a timeline: what two readings print."""
+    yield from make_archive(given, number)
     one, _ = yield [readings[0], str(number)], b""
     other, _ = yield [readings[1], str(number)], b""
     return one, other
@@ -230,6 +275,12 @@ def ask_stretches(given: Given, number: int) -> Question:
     return stretches_in(*(yield from ask_archive(given, number, ["stretches", "debts"])))
 
 
+def ask_ahead(given: Given, number: int) -> Question:
+    """About the forecast of a timeline."""
+    yield from make_archive(given, number)
+    return forecast_in(*(yield ["ahead", str(number), *minute_text(given["minute"]).split(" ")], b""))
+
+
 def ask_csv(given: Given, number: int) -> Question:
     """About a text of CSV. A driver is registered in an archive of its own."""
     text = bytes_of(given["csv"])
@@ -242,7 +293,8 @@ def ask_csv(given: Given, number: int) -> Question:
 
 
 QUESTIONS = {
-    "words": ask_value, "chains": ask_value, "files": ask_file, "timelines": ask_timeline, "stretches": ask_stretches, "csv": ask_csv,
+    "words": ask_value, "chains": ask_value, "files": ask_file, "timelines": ask_timeline, "stretches": ask_stretches, "ahead": ask_ahead,
+    "csv": ask_csv,
 }
 WITHOUT_ARCHIVE = ["dump", "holder", "card"]
 

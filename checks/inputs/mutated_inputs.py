@@ -292,7 +292,7 @@ class Texts(random_commands.Commands):
 # Command lines
 
 NAMES = [name for name in COMMANDS if name not in ("init", "serve", "listen")] + ["help", "Sheet", ""]
-WORDS = [PATH, NO_TEXT, "", "17", "018", "0", "1000000", "both", "2024-03", "2024-03-04", "2100-01", "help", "-", "--", "-1", "-h"]
+WORDS = [PATH, NO_TEXT, "", "17", "018", "0", "1000000", "both", "2024-03", "2024-03-04", "2100-01", "12:00", "help", "-", "--", "-1", "-h"]
 WORDS += ["--help", "--all=1", "\u0661\u0667", 5_000 * "1", "no-archive"]
 LETTERS = ["", *"0123456789-:/ +.eb\u00e9"]
 OTHER_LINES = [["help"], [], ["init", PATH, "1"], ["init"]]

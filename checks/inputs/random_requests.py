@@ -47,6 +47,8 @@ OTHER_PATHS = [
     "/me/cards/b\u00f6th",
     "/drivers/17/files/",
     "/drivers/17/why",
+    "/drivers/17/ahead/2024-03-05",
+    "/me/ahead/2024-03-05/12:00/",
     "/drivers/17/form/2024-03",
     "/overview",
     "/overview/2024-03/17",
@@ -165,12 +167,14 @@ class Requests(office_lines.Lines):
         # The last path has the most arguments.
         place = -1 if others else 0
         path = OWN_PATHS[command][place] if is_own else PATHS[command][place]
-        driver, word = ("", others[0]) if len(others) == 1 and "{driver}" not in PATHS[command][place] else (*others, "", "")[:2]
+        driver, *ends = ["", *others] if len(others) < 2 and "{driver}" not in PATHS[command][place] else others
+        for end in ends:
+            path = path.replace("{word}" if "{word}" in path else "{time}", end, 1)
         fields = [("x-key", (self.key_of(others[0]) if others else self.any_key()) if is_own else self.office_key)]
         if is_input or command in POSTED and self.chance.random() < 0.5:
             fields.append(("content-length", str(len(given))))
         method = "POST" if command in POSTED else "GET"
-        return Parts(method, path.format(driver=driver, word=word), fields, given if is_input else b"")
+        return Parts(method, path.replace("{driver}", driver), fields, given if is_input else b"")
 
     def dressed(self, name: str) -> str:
         """The name of a field in any case."""

@@ -318,6 +318,29 @@ def single_bytes() -> Iterator[Made]:
         yield made("byte", 403 if key == "\u00a0" else 400, f"the byte {ord(key)} stands before the key", [ADD_ANNA, head])
 
 
+def forecasts() -> Iterator[Made]:
+    """The forecast, whose path has a date and a time."""
+    minute = "ahead/2024-03-05/12:00"
+    for who, key, whose in (("/drivers/17", OFFICE, "the office"), ("/me", DRIVER, "the driver")):
+        request = asking(f"GET {who}/{minute}", key)
+        yield made("done", 200, f"'{minute}' is asked for by {whose}, and minutes after the horizon are held", [*WITH_DAY, request])
+        yield made("done", 200, f"'{minute}' is asked for by {whose} of a driver who has nothing", [ADD_ANNA, request])
+    yield made("path", 403, f"a driver may not GET '/drivers/17/{minute}'", [ADD_ANNA, asking(f"GET /drivers/17/{minute}", DRIVER)])
+    yield made("path", 403, f"the office may not GET '/me/{minute}'", [ADD_ANNA, asking(f"GET /me/{minute}", OFFICE)])
+    yield made("path", 405, f"the path '/me/{minute}' hasn't the method POST", [ADD_ANNA, asking(f"POST /me/{minute}", DRIVER)])
+    for path in ("/drivers/17/ahead", "/drivers/17/ahead/2024-03-05", "/drivers/17/ahead/2024-03-05/", f"/drivers/17/{minute}/"):
+        yield made("path", 404, f"the path '{path}' isn't one", [ADD_ANNA, asking(f"GET {path}", OFFICE)])
+    for number, end, status, what in (
+        ("017", "2024-02-30/24:00", 400, "a number with a zero in front, before a wrong minute"),
+        ("18", "2024-02-30/12:00", 400, "30 February, before an unknown driver"),
+        ("18", "2024-03-05/12:00", 404, "an unknown driver's forecast"),
+        ("17", "2024-02-30/9:00", 400, "a time of another shape, beside 30 February"), ("17", "2024-03-05/24:00", 400, "hour 24"),
+        ("17", "2024-03-05/12:60", 400, "minute 60 of an hour"), ("17", "2024-03-05/12%3A00", 400, "a colon in a percent sign"),
+        ("17", "2100-01-01/00:00", 400, "a minute of 2100"), ("17", "2099-12-31/23:59", 400, "a forecast that goes past 2099"),
+    ):
+        yield made("argument", status, what, [ADD_ANNA, asking(f"GET /drivers/{number}/ahead/{end}", OFFICE)])
+
+
 def requests() -> list[Made]:
     """All cases of requests."""
-    return [one for maker in (heads, limits, keys, paths, bodies, arguments, refusals, done, single_bytes) for one in maker()]
+    return [one for maker in (heads, limits, keys, paths, bodies, arguments, refusals, done, single_bytes, forecasts) for one in maker()]

@@ -24,6 +24,7 @@ ENTRIES: dict[str, tuple[str, ...] | None] = {
     "tacho_rules": ("examination", "laws", "report"),
     "tacho_stretches": ("laws", "range", "stretch"),
     "tacho_evidence": None,
+    "tacho_ahead": None,
     "tacho_state": None,
     "tacho_sheet": None,
     "tacho_desk": None,

@@ -25,6 +25,7 @@ READINGS = [
     "breaches 17",
     "why 17 2024-03",
     "owed 17",
+    "ahead 17 2024-03-05 12:00",
     "entries 17",
     "file 17 1",
     "files 17",

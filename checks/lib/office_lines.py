@@ -2,18 +2,20 @@
 entered for one of them, and readings after what was done before."""
 from inputs import hard_timelines, random_commands
 from inputs.random_commands import Columns, date_text, rows_csv, rows_of
-from slow import slow_csv, slow_office
+from slow import slow_csv, slow_office, slow_reader
 from slow.slow_archive import Driver
 from slow.slow_office import Command
 
 LINES = 30
 FIRST_DAY = 10_957  # 2000-01-01, the first day of a month that is read
+LAST_MINUTE = 68_374_079  # 2099-12-31 23:59
 READINGS = ["spans", "gaps", "sheet", "chart", "why", "breaches", "owed", "owed", "entries", "files", "file", "drivers", "check", "migrate"]
-READINGS += ["stretches", "stretches", "debts", "overview", "incidents", "form"]
+READINGS += ["stretches", "stretches", "debts", "overview", "incidents", "form", "ahead"]
 BAD_DRIVERS = ["017", "0", "1000000", "", "+17", "1e3", "\u0661\u0667"]
 BAD_NUMBERS = ["0", "01", "1000001", "x", "99999999999999999999"]
 BAD_MONTHS = ["2024-13", "2024-00", "2024-3", "1999-12", "2100-01", "0000-01", "2024-03-04", "2024/03"]
 BAD_DATES = ["2024-02-30", "2023-02-29", "1999-12-31", "2100-01-01", "0000-02-29", "2024-03", "2024-3-4"]
+BAD_TIMES = ["24:00", "12:60", "9:00", "12:0", "12.00", "1200", "12:00:00", "", "2024-03-04"]
 BAD_PARTS = ["whole", "BOTH", "", "0"]
 
 # By the command: what its arguments, without the archive, are changed to.
@@ -27,6 +29,7 @@ BAD: dict[str, list[list[str]]] = {
     "sheet": [BAD_DRIVERS, BAD_MONTHS],
     "chart": [BAD_DRIVERS, BAD_MONTHS],
     "why": [BAD_DRIVERS, BAD_MONTHS],
+    "ahead": [BAD_DRIVERS, BAD_DATES, BAD_TIMES],
     "file": [BAD_DRIVERS, BAD_NUMBERS],
     "drivers": [BAD_DRIVERS],
     "check": [],
@@ -79,6 +82,14 @@ class Lines(random_commands.Commands):
         day = self.chance.choice(held or [self.base // 1440]) + self.chance.choice([-31, 0, 0, 0, 31])
         return self.one_of([date_text(max(day, FIRST_DAY))[:7]], BAD_MONTHS)
 
+    def minute(self, driver: Driver | None) -> list[str]:
+        """A date and a time: near the end of what a driver holds, or at any minute of it, or arguments that are none."""
+        held = list(driver.held()) if driver else []
+        end = max(held, default=self.base)
+        minute = self.chance.choice([end, end + 1, end + 600, end + 1440, self.chance.choice(held or [end])])
+        date, time = slow_reader.minute_text(min(minute, LAST_MINUTE)).split(" ")
+        return [self.one_of([date], BAD_DATES), self.one_of([time], BAD_TIMES)]
+
     def number(self) -> int:
         """A driver's number: that of the hard weeks, one with downloads, if there is any, or any other."""
         with_downloads = [number for number, driver in self.drivers.items() if driver.downloads]
@@ -96,6 +107,8 @@ class Lines(random_commands.Commands):
             return [word, self.month(driver)], b""
         if word in ("spans", "gaps", "sheet", "chart", "why"):
             return [word, str(number), self.month(driver)], b""
+        if word == "ahead":
+            return [word, str(number), *self.minute(driver)], b""
         if word == "file":
             count = len(driver.downloads) if driver else 0
             return [word, str(number), str(self.one_of(range(1, count + 1) or [1], [count + 1]))], b""

@@ -134,6 +134,22 @@ TWO_MONDAYS += b"2024-03-11 00:00,2024-03-11 07:00,rest\n2024-03-11 07:00,2024-0
 UNSEEN = "NOT EXAMINED 2024-03-04 17:00 2024-03-11 00:00\n"
 SECOND = "FROM 2024-03-11\nEXAMINED TO 2024-03-11 11:00 unknown\n"
 
+AHEAD = (
+    "FROM 2024-03-04\nEXAMINED TO 2024-03-05 08:00 unknown\nSTART 2024-03-05 09:00\nREST SINCE 2024-03-04 17:00\n"
+    "DAY SINCE 2024-03-05 09:00\nREDUCED 0\nEXTENDED 0\nDRIVEN 2024-02-26 0:00\nDRIVEN 2024-03-04 8:30\n"
+    "B1 Art 7 until 2024-03-05 13:30 left 4:30\nB2 Art 8(2) until 2024-03-06 00:00 left 15:00\n"
+    "B4 Art 6(1) until 2024-03-05 19:00 left 10:00\nB6 Art 6(2) until 2024-03-07 08:30 left 47:30\n"
+    "B7 Art 6(3) until 2024-03-08 18:30 left 81:30\nB8 Art 8(6) until 2024-03-10 08:00 left 119:00\n"
+    "B9 Art 8(6) until 2024-03-17 23:59 left 302:59\n"
+)
+NOTHING_AHEAD = (
+    "FROM 2024-03-04\nEXAMINED TO 2024-03-04 00:00 unknown\nSTART 2024-03-09 08:00\nREST SINCE -\n"
+    "DAY SINCE 2024-03-09 08:00\nREDUCED 0\nEXTENDED 0\nDRIVEN 2024-02-26 0:00\nDRIVEN 2024-03-04 0:00\n"
+    "B1 Art 7 until 2024-03-09 12:30 left 4:30\nB2 Art 8(2) until 2024-03-09 23:00 left 15:00\n"
+    "B4 Art 6(1) until 2024-03-09 18:00 left 10:00\nB8 Art 8(6) until 2024-03-15 08:00 left 144:00\n"
+    "B9 Art 8(6) until 2024-03-17 23:59 left 207:59\n"
+)
+
 ROWS = {
     "a day": [
         ADDED,
@@ -184,6 +200,21 @@ ROWS = {
         refused("base 17 2024-03-12", "S9 not a Monday"),
         refused("base 18 2024-03-12", "S4 unknown driver"),
         refused("sheet 18 2024-13", "Z2 no such date"),
+        refused("ahead 017 2024-02-30 24:00", "N1 bad number"),
+        refused("ahead 18 2024-03-05 24:00", "Z2 no such date"),
+        refused("ahead 17 2024-03-05 12:60", "Z2 no such date"),
+        refused("ahead 17 2024-02-30 12:00", "Z2 no such date"),
+        refused("ahead 17 2100-02-30 12:00", "Z2 no such date"),
+        refused("ahead 17 2024-02-30 9:00", "Z1 not of the shape"),
+        refused("ahead 17 2024-3-5 12:00", "Z1 not of the shape"),
+        refused("ahead 17 2024-03-05 12.00", "Z1 not of the shape"),
+        refused("ahead 17 2024-03-05 2024-03-05", "Z1 not of the shape"),
+        refused("ahead 17 12:00 2024-03-05", "Z1 not of the shape"),
+        refused("ahead 17 2000-01-02 23:59", "Z3 out of range"),
+        refused("ahead 17 2100-01-01 00:00", "Z3 out of range"),
+        refused("ahead 18 2099-12-31 23:59", "S4 unknown driver"),
+        refused("ahead 17 2099-12-31 23:59", "Z3 out of range"),
+        refused("ahead 17 2099-10-29 13:00", "Z3 out of range"),
         *[refused(f"{word} 18", "S4 unknown driver") for word in ["breaches", "owed", "entries", "files"]],
         *[refused(f"{word} 18 2024-03", "S4 unknown driver") for word in ["spans", "gaps", "sheet", "chart", "why"]],
         *[refused(f"{word} 18 1", "S4 unknown driver") for word in ["withdraw", "file"]],
@@ -324,6 +355,27 @@ ROWS = {
         done("withdraw 17 1", "withdrawn 1\n"),
         done("breaches 17", BREACH + EXAMINED),
         done("sheet 17 2024-04", APRIL),
+    ],
+    "a forecast": [
+        done("ahead 17 2024-03-09 08:00", NOTHING_AHEAD),
+        ADDED,
+        done("ahead 17 2024-03-05 09:00", f"FROM 2024-03-04\n{EXAMINED}NOT EXAMINED 2024-03-04 17:00 2024-03-05 08:00\n"),
+        done("ahead 17 2099-12-31 23:59", f"FROM 2024-03-04\n{EXAMINED}NOT EXAMINED 2024-03-04 17:00 2024-03-05 08:00\n"),
+        done("enter 17", "entered 1 to 1\n", HOURS_HEAD + b"2024-03-04 17:00,2024-03-05 00:00,rest\n"),
+        done("ahead 17 2024-03-05 09:00", AHEAD),
+        refused("ahead 17 2099-12-31 23:59", "Z3 out of range"),
+        refused("ahead 18 2024-03-05 09:00", "S4 unknown driver"),
+        done("withdraw 17 1", "withdrawn 1\n"),
+        done("base 17 2024-03-11", "base 2024-03-11\n"),
+        done(
+            "ahead 17 2024-03-05 09:00",
+            "FROM 2024-03-11\nEXAMINED TO 2024-03-11 00:00 unknown\nSTART 2024-03-11 00:00\nREST SINCE -\n"
+            "DAY SINCE 2024-03-11 00:00\nREDUCED 0\nEXTENDED 0\nDRIVEN 2024-03-04 0:00\nDRIVEN 2024-03-11 0:00\n"
+            "B1 Art 7 until 2024-03-11 04:30 left 4:30\nB2 Art 8(2) until 2024-03-11 15:00 left 15:00\n"
+            "B4 Art 6(1) until 2024-03-11 10:00 left 10:00\nB6 Art 6(2) until 2024-03-13 08:00 left 56:00\n"
+            "B7 Art 6(3) until 2024-03-14 18:00 left 90:00\nB8 Art 8(6) until 2024-03-17 00:00 left 144:00\n"
+            "B9 Art 8(6) until 2024-03-18 00:00 left 168:00\n",
+        ),
     ],
     "two Mondays": [
         done("stretches 17", f"FROM 2024-03-04\n{UNEXAMINED}"),

@@ -7,6 +7,15 @@ from lib import files
 FOLDER = os.path.join(files.CHECKS, "readings")
 
 
+def words_of(name: str) -> list[str]:
+    """The arguments of a reading, by the name of the file that has what it prints: `chart-17-2024-03`, `ahead-17-2024-03-05-12:00`."""
+    word, _, rest = name.partition("-")
+    if word == "ahead":
+        number, _, minute = rest.partition("-")
+        return [word, number, minute[:10], minute[11:]]
+    return [word, *rest.split("-", 1 if word in ("chart", "why") else 0)]
+
+
 def steps_of(case: str) -> Iterator[tuple[list[str], bytes, str]]:
     """The commands of a folder: their arguments, their input, and what they answer."""
     with open(os.path.join(FOLDER, case, "steps"), encoding="utf-8") as file:

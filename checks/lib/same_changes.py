@@ -85,6 +85,32 @@ OFFICE = {
     ("stretches_of", "minute > horizon", "minute >= horizon"),
 }
 
+# Of slow_ahead.py.
+PART = "slow_rules.rests_of(runs, 180)"
+AHEAD: set[tuple[object, ...]] = {
+    # The first new breach of B1 to B5 comes in the first 901 minutes, and that of B8 in the first 8,641.
+    ("DAY", "DAY = 1440", "DAY = 1441"),
+    ("DAY", "DAY = 1440", "DAY = 1439"),
+    ("reach", "if kind == 9", "if True"),
+    ("reach", "7 * DAY", "8 * DAY"),
+    # All weeks' ends and deadlines that a plan is about come before its last rest ends.
+    ("FIVE_WEEKS", "FIVE_WEEKS = 50400", "FIVE_WEEKS = 50401"),
+    ("FIVE_WEEKS", "FIVE_WEEKS = 50400", "FIVE_WEEKS = 50399"),
+    # No more than 660 minutes of a daily rest lie within 24 hours if it begins at the last minute at which these do.
+    ("DAILY_REST", "DAILY_REST = 660", "DAILY_REST = 661"),
+    # What comes after a daily rest, or for how long the driver works then, doesn't change it.
+    ("breaches_at", "worked + 1", "worked - 1"),
+    ("breaches_at", "worked + 1", "worked + 2"),
+    ("breaches_at", "worked + 1", "worked + 0"),
+    # Rests that don't matter may be looked at too.
+    ("recent", f"for run in {PART} if run.start >= weekly.start", f"for run in {PART}"),
+    ("recent", PART, "slow_rules.rests_of(runs, 179)"),
+    ("recent", "-1", "-0", 0),
+    # Two minutes of driving at `start` lie in the same day as one, and so between the same rests.
+    ("limits_of", "start + 1", "start + 2"),
+    ("outlook", "start + 1", "start + 2"),
+}
+
 # Of slow_server.py, where a case has one right reply.
 SERVER = {
     # What isn't open is refused. The second of these places is about replies that wait.
@@ -103,7 +129,9 @@ SERVER = {
 }
 
 # By the program. Of these there are more kinds: tests of an `if` that always hold, or never, and `in` for `not in`.
-SAME: dict[str, set[tuple[object, ...]]] = {"rules": {*RULES}, "reader": READER, "csv": CSV, "office": OFFICE, "server": SERVER}
+SAME: dict[str, set[tuple[object, ...]]] = {
+    "rules": {*RULES}, "ahead": AHEAD, "reader": READER, "csv": CSV, "office": OFFICE, "server": SERVER,
+}
 
 # What no request of a case leads to: a million entries of a driver, and a failure of memory or of the store. The texts are those that a
 # change leaves out.

@@ -8,15 +8,18 @@ from typing import Any
 
 from lib import changes, same_changes, vector_sets
 from lib.changes import Change
-from slow import slow_csv, slow_office, slow_reader, slow_rules, slow_server
+from slow import slow_ahead, slow_csv, slow_office, slow_reader, slow_rules, slow_server
 
 SECONDS = 0.5  # within which a changed program has to answer, where the program as it is takes less than a tenth of that
-LONG = 0.2  # seconds: cases that take longer to answer are tried last
+LONG = 0.2  # seconds: timelines that take longer to answer are tried last
 OTHERS = 100  # cases of other rules that are tried
 MOST = 3  # cases that are listed for a change, unless another case is needed for nothing else
 
-MODULES = {"reader": slow_reader, "rules": slow_rules, "csv": slow_csv, "office": slow_office, "server": slow_server}
-SETS_OF = {"reader": ["words", "chains", "files"], "rules": ["timelines"], "office": ["stretches"], "csv": ["csv"], "server": ["http"]}
+MODULES = {"reader": slow_reader, "rules": slow_rules, "ahead": slow_ahead, "csv": slow_csv, "office": slow_office, "server": slow_server}
+SETS_OF = {
+    "reader": ["words", "chains", "files"], "rules": ["timelines"], "ahead": ["ahead"], "office": ["stretches"], "csv": ["csv"],
+    "server": ["http"],
+}
 
 # What is no definition of the programs: checks of what they are given, and what they print. Of the office only stretches are changed.
 APART = {
@@ -65,7 +68,9 @@ class Known:
         self.is_too_long = False  # whether a changed program has taken too long for it
         started = time.perf_counter()
         self.found = slow_rules.examine(*self.examined) if name == "timelines" else None
-        self.cost = time.perf_counter() - started if self.found else len(str(case["input"])) / 1e9
+        if name == "ahead":
+            vector_sets.ANSWERS[name](vector_sets.SLOW, case["input"])
+        self.cost = time.perf_counter() - started if name in ("timelines", "ahead") else len(str(case["input"])) / 1e9
 
     @functools.cached_property
     def examined(self) -> tuple[list[slow_rules.Span], int, int]:
@@ -152,7 +157,8 @@ def candidates(change: Changed, known: list[Known]) -> list[Known]:
         kind = f"{one.name} {one.case['rule']} {one.case['id'].rsplit('-', 1)[0]}"
         turns[kind] = turns.get(kind, 0) + 1
         is_other = one.case["rule"] not in change.rules if change.rules else False
-        order.append((is_other or one.cost > LONG, turns[kind], one.cost, one.id, one))
+        is_long = one.name == "timelines" and one.cost > LONG
+        order.append((is_other or is_long, turns[kind], one.cost, one.id, one))
     found = [(is_other, one) for is_other, *_, one in sorted(order, key=lambda item: item[:4])]
     others = [one for is_other, one in found if is_other]
     return [one for is_other, one in found if not is_other] + others[:OTHERS]
@@ -167,6 +173,11 @@ def noticing(change: Changed, known: list[Known]) -> list[Known]:
             if len(found) == MOST or change.is_endless:
                 break
     return found
+
+
+def is_apart(case: vector_sets.Case) -> bool:
+    """Whether a case has no forecast: it expects only how the last stretch ends, whatever slow_ahead.py does."""
+    return isinstance(case["expected"], dict) and "not_examined" in case["expected"]
 
 
 def preferred(one: Known, made: list[Changed]) -> list[Changed]:
@@ -192,7 +203,7 @@ def matched(program: str, known: list[Known], say: Callable[[str], None]) -> tup
             change = next((change for change in others if change.is_noticed_by(one) and not change.is_endless), None)
             if change:
                 found[change.name].append(one)
-            else:
+            elif not is_apart(one.case):
                 lost.append(one.id)
     lines = [change.line(one.id for one in found[change.name]) for change in made if found[change.name]]
     return lines, [change.name for change in made if not found[change.name]], lost

@@ -14,10 +14,10 @@ from types import ModuleType, SimpleNamespace
 from typing import Any
 
 from lib import files
-from slow import slow_csv, slow_office, slow_reader, slow_rules, slow_server
+from slow import slow_ahead, slow_csv, slow_office, slow_reader, slow_rules, slow_server
 
 FOLDER = os.path.join(files.TOP, "vectors")
-NAMES = ["words", "chains", "files", "timelines", "stretches", "csv", "http"]
+NAMES = ["words", "chains", "files", "timelines", "stretches", "ahead", "csv", "http"]
 KEYS = ["id", "why", "rule", "tags", "input", "expected"]
 
 # A case as a generator makes it: the name of the generator, a sentence that says what the case is for, the rule or fault that it is about,
@@ -29,9 +29,10 @@ Given = dict[str, Any]
 Answer = dict[str, Any]
 
 # The modules that answer: the slow programs as they are.
-SLOW = SimpleNamespace(reader=slow_reader, rules=slow_rules, csv=slow_csv, office=slow_office, server=slow_server)
+SLOW = SimpleNamespace(reader=slow_reader, rules=slow_rules, ahead=slow_ahead, csv=slow_csv, office=slow_office, server=slow_server)
 PROGRAM_OF = {
-    "words": "reader", "chains": "reader", "files": "reader", "timelines": "rules", "stretches": "office", "csv": "csv", "http": "server",
+    "words": "reader", "chains": "reader", "files": "reader", "timelines": "rules", "stretches": "office", "ahead": "ahead", "csv": "csv",
+    "http": "server",
 }
 
 
@@ -148,18 +149,23 @@ def held_of(given: Given) -> list[slow_rules.HeldSpan]:
 def report_answer(report: slow_rules.Report) -> Answer:
     """A report as a case has it."""
     horizon, cause, breaches, debts = report
-    return {
-        "horizon": horizon,
-        "cause": cause.lower(),
-        "breaches": [
-            {"rule": f"B{kind}", "article": ARTICLES[f"B{kind}"], "moment": moment, "since": since, "amount": amount}
-            for kind, moment, since, amount in breaches
-        ],
-        "debts": [
-            {"week": slow_rules.week_start(week), "amount": amount, "deadline": deadline, "payer": payer}
-            for week, amount, deadline, payer in debts
-        ],
-    }
+    return {"horizon": horizon, "cause": cause.lower(), "breaches": breaches_answer(breaches), "debts": debts_answer(debts)}
+
+
+def breaches_answer(breaches: Iterable[slow_rules.FoundBreach]) -> list[Answer]:
+    """Breaches as a case has them."""
+    return [
+        {"rule": f"B{kind}", "article": ARTICLES[f"B{kind}"], "moment": moment, "since": since, "amount": amount}
+        for kind, moment, since, amount in breaches
+    ]
+
+
+def debts_answer(debts: Iterable[slow_rules.FoundDebt]) -> list[Answer]:
+    """Debts as a case has them."""
+    return [
+        {"week": slow_rules.week_start(week), "amount": amount, "deadline": deadline, "payer": payer}
+        for week, amount, deadline, payer in debts
+    ]
 
 
 def answer_timeline(slow: SimpleNamespace, given: Given) -> Answer:
@@ -188,6 +194,30 @@ def answer_stretches(slow: SimpleNamespace, given: Given) -> Answer:
             }
             for one in stretches
         ]
+    }
+
+
+def answer_ahead(slow: SimpleNamespace, given: Given) -> Answer:
+    """The forecast of a timeline from a minute on; what isn't examined at its end, in place of it; or that it goes past the calendar."""
+    last = slow.office.stretches_of(marks_of(given), given["base"] // 1440)[-1]
+    where = {"monday": last.monday, "horizon": last.horizon, "cause": last.cause.lower()}
+    if last.unseen is not None:
+        return {**where, "not_examined": [last.horizon, last.unseen]}
+    spans = slow_rules.examined_spans(slow_rules.held_minutes(held_of(given)), last.monday, last.horizon)
+    found = slow.ahead.outlook(spans, last.monday, last.horizon, given["minute"])
+    if found is None:
+        return {"fault": "Z3"}
+    return {
+        **where,
+        "start": found.start,
+        "rest_since": found.rest_since,
+        "day_since": found.day_since,
+        "reduced": found.reduced,
+        "extended": found.extended,
+        "driven": [[week, minutes] for week, minutes in found.driven],
+        "coming": breaches_answer(found.coming),
+        "debts": debts_answer(found.debts),
+        "limits": [{"rule": f"B{kind}", "article": ARTICLES[f"B{kind}"], "until": until} for kind, until in found.limits.items()],
     }
 
 
@@ -248,6 +278,7 @@ ANSWERS: dict[str, Callable[[SimpleNamespace, Given], Answer]] = {
     "files": answer_file,
     "timelines": answer_timeline,
     "stretches": answer_stretches,
+    "ahead": answer_ahead,
     "csv": answer_csv,
     "http": answer_requests,
 }
@@ -263,7 +294,7 @@ def debts_in(answer: Answer) -> list[Answer]:
 
 def is_true(rule: str, claim: str, answer: Answer) -> bool:
     """Whether what a sentence says holds of an answer. `breach` and `no breach` speak of the rule, `paid`, `not paid` and `no debt` of
-    the first debt, and `read` and `fault` of a card or a text."""
+    the first debt, `read` and `fault` of a card or a text, `left` and `no limit` of the rule's limit, and some others of a forecast."""
     if claim in ("breach", "no breach"):
         return (claim == "breach") == any(breach["rule"] == rule for breach in answer["breaches"])
     if claim in ("paid", "not paid", "no debt"):
@@ -281,7 +312,23 @@ def is_true(rule: str, claim: str, answer: Answer) -> bool:
         return str(answer["replies"][-1][0]).startswith(f"HTTP/1.1 {claim.removeprefix('status ')} ")
     if claim.startswith("stretches "):
         return len(answer["stretches"]) == int(claim.removeprefix("stretches "))
-    return claim == ""
+    if claim == "no limit" or claim.startswith("left "):
+        left = [limit["until"] - answer["start"] for limit in answer["limits"] if limit["rule"] == rule]
+        return left == ([] if claim == "no limit" else [int(claim.removeprefix("left "))])
+    if claim == "no forecast":
+        return "not_examined" in answer
+    return claim == "" or of_forecast(answer, *claim.split(" "))
+
+
+def of_forecast(answer: Answer, name: str, count: str) -> bool:
+    """Whether a part of a forecast is a number, or has so many items."""
+    return int(count) == {
+        "day": answer["day_since"] - answer["monday"],
+        "reduced": answer["reduced"],
+        "extended": answer["extended"],
+        "coming": len(answer["coming"]),
+        "open": len(answer["debts"]),
+    }[name]
 
 
 # Lines

@@ -16,6 +16,12 @@ def card(code: str, old: str, new: str) -> Wrong:
     return Wrong(code, f"{code}: ", "reader", [(old, new)])
 
 
+def forecast(name: str, old: str, new: str) -> Wrong:
+    """A wrong forecast, whose name begins with the rule whose limit is wrong, if there is one."""
+    rule = name.split(" ")[0]
+    return Wrong(f"ahead {name}", f"ahead, {rule} (Article" if rule[1:].isdigit() else "ahead: ", "ahead", [(old, new)])
+
+
 def text(code: str, old: str, new: str) -> Wrong:
     """A wrong reading of CSV."""
     return Wrong(code, f"{code}: ", "csv", [(old, new)])
@@ -51,6 +57,18 @@ WRONG = [
     Wrong("stretches Monday", "stretches: ", "office", [("(minute - 1440 * 4) % 10080 == 0", "(minute - 1440 * 4) % 20160 == 0")]),
     Wrong("stretches end", "stretches: ", "office", [("max((minute + 1 for minute in held", "max((minute + 2 for minute in held")]),
     Wrong("stretches crew", "stretches: ", "office", [('minute in held and held[minute][1] == "single"', "minute in held")]),
+    forecast("B1 minute", "{kind: first - 1 for kind", "{kind: first for kind"),
+    forecast("B3 plan", "return slow_rules.breaches_3([*runs[:-1], Run(x, worked), Run(worked + 1, FAR)])",
+             "return slow_rules.breaches_3([*runs[:-1], Run(x, FAR)])"),
+    forecast("B2 old", "return any(breach not in old for breach in breaches)", "return bool(breaches)"),
+    forecast("B6 reach", "if kind in (6, 7):\n        return slow_rules.week_start(week + 1)",
+             "if kind == 7:\n        return slow_rules.week_start(week + 1)"),
+    forecast("B9 reach", "return slow_rules.week_start(week + 2)", "return slow_rules.week_start(week + 1)"),
+    forecast("rest", "(horizon, start, REST)", "(horizon, start, slow_rules.WORK)"),
+    forecast("start", "start = max(minute, horizon)", "start = horizon"),
+    forecast("weekly rest", "rest.past <= start for rest", "rest.past < start for rest"),
+    forecast("open", "debt.paid_by is None and debt.deadline > start", "debt.deadline > start"),
+    forecast("coming", "start, start), base) if breach not in old]", "start, start), base)]"),
     card("C1", "if value + length > len(file):", "if value + length > len(file) + 1:"),
     card("C2", "            if (identifier, kind) in seen:", "            if kind and (identifier, kind) in seen:"),
     card("C3", '        raise Fault("C3 no identification")', '        raise Fault("C6 no activity data")'),

@@ -11,7 +11,7 @@ import re
 from collections.abc import Callable, Iterable, Sequence
 
 from lib.programs import version_lines
-from slow import slow_archive, slow_csv, slow_evidence, slow_reader, slow_rules
+from slow import slow_ahead, slow_archive, slow_csv, slow_evidence, slow_reader, slow_rules
 from slow.slow_archive import Marks, Refusal
 from slow.slow_rules import FoundBreach, FoundDebt, Report
 
@@ -89,6 +89,18 @@ def day_of(text: str) -> int:
     if day_number(date) not in slow_reader.READ_DAYS:
         raise slow_reader.Fault("Z3 out of range")
     return day_number(date)
+
+
+def minute_of(text: str) -> int:
+    """The minute that two arguments are, with a blank between: Z1, Z2, Z3."""
+    if not re.fullmatch("[0-9]{4}-[0-9]{2}-[0-9]{2} [0-9]{2}:[0-9]{2}", text):
+        raise slow_reader.Fault("Z1 not of the shape")
+    date, hours, minutes = date_of(*[int(part) for part in text[:10].split("-")]), int(text[11:13]), int(text[14:])
+    if date is None or hours > 23 or minutes > 59:
+        raise slow_reader.Fault("Z2 no such date")
+    if day_number(date) not in slow_reader.READ_DAYS:
+        raise slow_reader.Fault("Z3 out of range")
+    return 1440 * day_number(date) + 60 * hours + minutes
 
 
 def month_of(text: str) -> Month:
@@ -202,14 +214,18 @@ def standing_of(horizon: int, deadline: int, payer: int | None) -> str:
     return "late" if deadline <= horizon else "open"
 
 
-def owed_text(horizon: int, cause: str, debts: Iterable[FoundDebt]) -> str:
-    """Debts, and where the examination ends."""
-    lines = [
+def debt_text(horizon: int, debt: FoundDebt) -> str:
+    """The line of a debt."""
+    week, amount, deadline, payer = debt
+    return (
         f"WEEK {slow_reader.minute_text(slow_rules.week_start(week))[:10]} owes {amount} "
         f"by {slow_reader.minute_text(deadline)} {standing_of(horizon, deadline, payer)}\n"
-        for week, amount, deadline, payer in debts
-    ]
-    return "".join(lines) + horizon_text(horizon, cause)
+    )
+
+
+def owed_text(horizon: int, cause: str, debts: Iterable[FoundDebt]) -> str:
+    """Debts, and where the examination ends."""
+    return "".join(debt_text(horizon, debt) for debt in debts) + horizon_text(horizon, cause)
 
 
 @functools.lru_cache(maxsize=1_000)
@@ -296,6 +312,36 @@ def why_text(driver: slow_archive.Driver, month: Month) -> str:
             lines.append(breach_text(breach))
             lines += [f"  {line}\n" for line in slow_evidence.evidence(spans, stretch.monday, stretch.horizon, breach)]
     return "".join(lines)
+
+
+def outlook_text(found: slow_ahead.Outlook) -> str:
+    """What is used, which breaches come, which debts are open, and until when driving can go on."""
+    since = "-" if found.rest_since is None else slow_reader.minute_text(found.rest_since)
+    return "".join([
+        f"START {slow_reader.minute_text(found.start)}\nREST SINCE {since}\nDAY SINCE {slow_reader.minute_text(found.day_since)}\n",
+        f"REDUCED {found.reduced}\nEXTENDED {found.extended}\n",
+        *(f"DRIVEN {slow_reader.minute_text(week)[:10]} {slow_evidence.length_text(minutes)}\n" for week, minutes in found.driven),
+        *map(breach_text, found.coming),
+        *(debt_text(found.start, debt) for debt in found.debts),
+        *(
+            f"B{kind} {ARTICLES[kind]} until {slow_reader.minute_text(until)} left {slow_evidence.length_text(until - found.start)}\n"
+            for kind, until in found.limits.items()
+        ),
+    ])
+
+
+def ahead_text(driver: slow_archive.Driver, minute: int) -> str:
+    """Until when a driver can drive on: Z3. If something is held after the horizon of the last stretch, this is how it ends."""
+    held = driver.held()
+    last = stretches_of(held, driver.base)[-1]
+    if last.unseen is not None:
+        return last.text(horizon_text(last.horizon, last.cause))
+    marks = {minute: slow_rules.Mark(activity, False) for minute, (activity, _) in held.items()}
+    spans = slow_rules.examined_spans(marks, last.monday, last.horizon)
+    found = slow_ahead.outlook(spans, last.monday, last.horizon, minute)
+    if found is None:
+        raise slow_reader.Fault("Z3 out of range")
+    return last.text(horizon_text(last.horizon, last.cause)) + outlook_text(found)
 
 
 def overview_row(driver: slow_archive.Driver, minutes: range) -> str:
@@ -480,6 +526,7 @@ class Office:
             "breaches": lambda: self.breaches(*others),
             "why": lambda: self.why(*others),
             "owed": lambda: self.owed(*others),
+            "ahead": lambda: self.ahead(*others),
             "entries": lambda: self.entries(*others),
             "file": lambda: self.file(*others),
             "files": lambda: self.files(*others),
@@ -602,6 +649,11 @@ class Office:
         driver = self.driver(number)
         horizon, cause, _, debts = report_of(driver.held(), driver.base)
         return owed_text(horizon, cause, debts)
+
+    def ahead(self, number: str, date: str, time: str) -> str:
+        """Until when a driver can drive on from a minute: N1, Z1, Z2, Z3, S4, Z3."""
+        driver, minute = number_of(number, LAST_DRIVER), minute_of(f"{date} {time}")
+        return ahead_text(self.archive.driver(driver), minute)
 
     def entries(self, number: str) -> str:
         """The entries of a driver."""

@@ -80,6 +80,7 @@ OFFICE_ROUTES = {
     "/drivers/{n}/form": {"GET": "form"},
     "/drivers/{n}/why/{month}": {"GET": "why"},
     "/drivers/{n}/chart/{month}": {"GET": "chart"},
+    "/drivers/{n}/ahead/{date}/{time}": {"GET": "ahead"},
     "/overview/{month}": {"GET": "overview"},
     "/incidents/{month}": {"GET": "incidents"},
     "/version": {"GET": "version"},
@@ -101,6 +102,7 @@ DRIVER_ROUTES = {
     "/me/form": {"GET": "form"},
     "/me/why/{month}": {"GET": "why"},
     "/me/chart/{month}": {"GET": "chart"},
+    "/me/ahead/{date}/{time}": {"GET": "ahead"},
     "/me/version": {"GET": "version"},
     "/me/driver": {"GET": "drivers"},
 }
