@@ -1,6 +1,7 @@
-"""Measures stretches and the evidence for a month's breaches next to reports, and a month of all drivers next to a report of each, on
-archives in files. Counts the instructions of stretches, of a month of all drivers, and of the chart of a month and the evidence for its
-breaches, and compares them with a plain Rust program over stock SQLite (plain/stretches.rs). Counts those of evidence next to a report too.
+"""Measures stretches, forecasts and the evidence for a month's breaches next to reports, and a month of all drivers next to a report of
+each, on archives in files. Counts the instructions of stretches, of forecasts, of a month of all drivers, and of the chart of a month and
+the evidence for its breaches, and compares them with a plain Rust program over stock SQLite (plain/stretches.rs). Counts those of evidence
+next to a report too.
 
 One archive has a driver with card files of ten years. Rest is entered in its gaps, so the report extends to the end. Another archive has
 the same files with their gaps, at each of which a stretch ends, and a third the last year of these. There are two archives of fifty drivers
@@ -30,6 +31,7 @@ Works = Mapping[str, tuple[str, Sequence[str]]]  # for each work the path of its
 ROUNDS, ROUNDS_OF_ALL = 40, 10
 YEARS, DRIVERS = 10, 50
 WHY = f"why - {DRIVER} 2023-06"  # the month is one of the last year, and has breaches of three kinds
+AHEAD = f"ahead - {DRIVER} 2023-06-01 12:00"  # before the last horizon, so the forecast begins there
 
 
 def make_all(script: str, folder: str, path: str, is_filled: bool) -> str:
@@ -136,6 +138,8 @@ def stretches(folder: str, script: str) -> None:
         f"form, {YEARS} years with gaps": (gaps, [f"form - {DRIVER}"]),
         f"why, {YEARS} years without a gap": (filled, [WHY]),
         f"why, {YEARS} years with gaps": (gaps, [WHY]),
+        f"ahead, {YEARS} years without a gap": (filled, [AHEAD]),
+        f"ahead, {YEARS} years with gaps": (gaps, [AHEAD]),
     }
     print_works(script, works, ROUNDS)
     full, many = os.path.join(folder, "full.db"), path_of(folder, "tacho", "many")
@@ -155,7 +159,8 @@ def stretches(folder: str, script: str) -> None:
         "incidents, with gaps": (many, [f"incidents - {month}"]),
     }
     print_works(script, works, ROUNDS_OF_ALL)
-    for name in ("gaps", "many", "year"):
+    shutil.copyfile(filled, path_of(folder, "tacho", "filled"))
+    for name in ("gaps", "many", "year", "filled"):
         write_by_stock(*(path_of(folder, side, name) for side in sides))
     counted_works = {
         f"stretches, {YEARS} years with gaps": ("gaps", f"stretches - {DRIVER}"),
@@ -164,7 +169,8 @@ def stretches(folder: str, script: str) -> None:
         f"chart, {YEARS} years with gaps": ("gaps", f"chart - {DRIVER} {month}"),
         "why, one year with gaps": ("year", WHY),
         f"why, {YEARS} years with gaps": ("gaps", WHY),
+        "ahead, one year with gaps": ("year", AHEAD),
+        f"ahead, {YEARS} years without a gap": ("filled", AHEAD),
     }
     print_instructions(sides, folder, counted_works)
-    shutil.copyfile(filled, path_of(folder, "tacho", "filled"))
     print_evidence(script, folder, "filled", f"{YEARS} years without a gap")

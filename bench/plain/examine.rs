@@ -4,7 +4,7 @@ use std::hint::black_box;
 use std::mem;
 
 const START: u32 = 15_780_960; // 2000-01-03 00:00
-const LAST: u32 = 68_374_080; // 2100-01-01 00:00
+pub const LAST: u32 = 68_374_080; // 2100-01-01 00:00
 const FAR: u32 = u32::MAX; // the end of the last rest, which has none
 const DAY: u32 = 1440;
 pub const WEEK: u32 = 7 * DAY;
@@ -48,6 +48,7 @@ pub enum Kind {
     B10,
 }
 
+#[derive(Clone, PartialEq)]
 pub struct Breach {
     pub kind: Kind,
     pub moment: u32,
@@ -63,6 +64,7 @@ pub struct Debt {
 }
 
 /// Why the examination of a line stops.
+#[derive(Clone, Copy)]
 pub enum Cause {
     Unknown,
     Crew,
@@ -84,6 +86,7 @@ pub fn week_start(week: u32) -> u32 {
 }
 
 /// A sum of driving minutes, the first of them, and the first one above a limit.
+#[derive(Clone)]
 struct Driving {
     limit: u32,
     minutes: u32,
@@ -116,6 +119,7 @@ impl Driving {
 }
 
 /// The driving since the last complete break.
+#[derive(Clone)]
 struct Stretch {
     driving: Driving,
     has_first_part: bool,
@@ -137,8 +141,9 @@ impl Stretch {
 }
 
 /// The current duty day.
-struct Day {
-    start: u32,
+#[derive(Clone)]
+pub struct Day {
+    pub start: u32,
     driving: Driving,
     usual_driving: Driving,
     has_part: bool,
@@ -151,12 +156,13 @@ impl Day {
 }
 
 /// The current duty day, and what is counted over the days before it.
-struct Days {
-    day: Day,
+#[derive(Clone)]
+pub struct Days {
+    pub day: Day,
     week: u32,
     extended: u32,
     weekly_rest_end: u32,
-    reduced: u32,
+    pub reduced: u32,
 }
 
 impl Days {
@@ -174,8 +180,13 @@ impl Days {
         self.day = Day::from(rest.past);
     }
 
+    /// The extended days before the current day, in the week of its start.
+    pub fn extended_in_week(&self) -> u32 {
+        if self.week == week_of(self.day.start) { self.extended } else { 0 }
+    }
+
     /// Ends the day with its daily rest.
-    fn end(&mut self, rest: &Rest, breaches: &mut Vec<Breach>) {
+    pub fn end(&mut self, rest: &Rest, breaches: &mut Vec<Breach>) {
         let start = self.day.start;
         let portion_end = rest.past.min(start + DAY);
         let has_portion = |minutes| rest.start + minutes <= portion_end;
@@ -204,6 +215,7 @@ impl Days {
 }
 
 /// The driving of a week, of that week and the week before, and of that week and the next.
+#[derive(Clone)]
 struct Weeks {
     week: u32,
     driving: Driving,
@@ -243,13 +255,17 @@ impl Weeks {
 /// A rest of nine hours or more. `used` counts the minutes that the rules need for the rest itself, and those that
 /// compensate for debts.
 #[derive(Clone, Copy)]
-struct Rest {
+pub struct Rest {
     start: u32,
     past: u32,
     used: u32,
 }
 
 impl Rest {
+    pub fn new(start: u32, past: u32) -> Rest {
+        Rest { start, past, used: DAILY_REST }
+    }
+
     fn minutes(&self) -> u32 {
         self.past - self.start
     }
@@ -260,12 +276,13 @@ impl Rest {
 }
 
 /// The state of the rules that are checked along the line, and the rests of nine hours or more so far.
-struct Pass {
+#[derive(Clone)]
+pub struct Pass {
     stretch: Stretch,
-    days: Days,
+    pub days: Days,
     weeks: Weeks,
     rests: Vec<Rest>,
-    breaches: Vec<Breach>,
+    pub breaches: Vec<Breach>,
 }
 
 impl Pass {
@@ -286,7 +303,7 @@ impl Pass {
     }
 
     fn rest(&mut self, start: u32, past: u32) {
-        let rest = Rest { start, past, used: DAILY_REST };
+        let rest = Rest::new(start, past);
         self.stretch.rest(rest.minutes(), &mut self.breaches);
         if rest.minutes() < DAILY_REST {
             self.days.day.has_part |= rest.minutes() >= FIRST_PART;
@@ -436,40 +453,66 @@ fn add_overdue(debts: &[Debt], horizon: u32, breaches: &mut Vec<Breach>) {
     }
 }
 
-/// Examines a line from a base, which is the first minute of a Monday.
-pub fn examine(line: &[Span], base: u32) -> Report {
-    let mut pass = Pass::from(base);
-    let (mut horizon, mut cause, mut rest_from) = (base, Cause::Unknown, 0);
-    for span in &line[line.partition_point(|span| span.past <= base)..] {
-        if horizon < span.start {
-            break;
-        }
-        if span.is_crew {
-            cause = Cause::Crew;
-            break;
-        }
-        if span.activity != Activity::Rest {
-            let start = span.start.max(base);
-            if rest_from < start {
-                pass.rest(rest_from, start);
+/// An examination that has read a line up to its horizon. Since `rest_from` there is rest; 0 if there was nothing else.
+#[derive(Clone)]
+pub struct Examination {
+    base: u32,
+    pub horizon: u32,
+    pub cause: Cause,
+    pub rest_from: u32,
+    pub pass: Pass,
+}
+
+impl Examination {
+    /// Reads a line from a base, which is the first minute of a Monday.
+    pub fn of(line: &[Span], base: u32) -> Examination {
+        let mut found = Examination { base, horizon: base, cause: Cause::Unknown, rest_from: 0, pass: Pass::from(base) };
+        for span in &line[line.partition_point(|span| span.past <= base)..] {
+            if found.horizon < span.start {
+                break;
             }
-            if span.activity == Activity::Drive {
-                pass.drive(start, span.past);
+            if span.is_crew {
+                found.cause = Cause::Crew;
+                break;
             }
-            rest_from = span.past;
+            if span.activity != Activity::Rest {
+                found.busy(span.start.max(base), span.past, span.activity == Activity::Drive);
+            }
+            found.horizon = span.past;
         }
-        horizon = span.past;
+        found
     }
-    pass.rest(rest_from, FAR);
-    pass.end();
-    let Pass { mut rests, mut breaches, .. } = pass;
-    let weekly: Vec<Rest> = rests.iter().filter(|rest| rest.minutes() >= WEEKLY_REST).copied().collect();
-    let debts = debts_of(&mut rests, horizon);
-    add_late_rests(&weekly, &mut breaches);
-    add_lacking_rests(&weekly, base, horizon, &mut breaches);
-    add_overdue(&debts, horizon, &mut breaches);
-    breaches.sort_unstable_by_key(|breach| (breach.moment, breach.kind, breach.since));
-    Report { horizon, cause, breaches, debts }
+
+    /// Goes on with what isn't rest, after rest up to it.
+    pub fn busy(&mut self, start: u32, past: u32, is_driving: bool) {
+        if self.rest_from < start {
+            self.pass.rest(self.rest_from, start);
+        }
+        if is_driving {
+            self.pass.drive(start, past);
+        }
+        self.rest_from = past;
+    }
+
+    /// The report of what was read.
+    pub fn end(mut self) -> Report {
+        let Examination { base, horizon, cause, .. } = self;
+        self.pass.rest(self.rest_from, FAR);
+        self.pass.end();
+        let Pass { mut rests, mut breaches, .. } = self.pass;
+        let weekly: Vec<Rest> = rests.iter().filter(|rest| rest.minutes() >= WEEKLY_REST).copied().collect();
+        let debts = debts_of(&mut rests, horizon);
+        add_late_rests(&weekly, &mut breaches);
+        add_lacking_rests(&weekly, base, horizon, &mut breaches);
+        add_overdue(&debts, horizon, &mut breaches);
+        breaches.sort_unstable_by_key(|breach| (breach.moment, breach.kind, breach.since));
+        Report { horizon, cause, breaches, debts }
+    }
+}
+
+/// Examines a line from a base.
+pub fn examine(line: &[Span], base: u32) -> Report {
+    Examination::of(line, base).end()
 }
 
 /// Appends a span without a second driver. `start` and `past` are minutes after START.

@@ -10,7 +10,7 @@ const HELD_FROM: &str = "SELECT start, past, mark FROM held WHERE driver = ?1 AN
 pub const DAY: u32 = 1440;
 const ACTIVITIES: [Activity; 4] = [Activity::Rest, Activity::Available, Activity::Work, Activity::Drive];
 #[rustfmt::skip]
-const RULES: [&str; 10] = [
+pub const RULES: [&str; 10] = [
     "B1 Art 7", "B2 Art 8(2)", "B3 Art 8(4)", "B4 Art 6(1)", "B5 Art 6(1)", "B6 Art 6(2)", "B7 Art 6(3)", "B8 Art 8(6)",
     "B9 Art 8(6)", "B10 Art 8(6b)",
 ];

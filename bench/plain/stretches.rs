@@ -1,10 +1,11 @@
-//! Runs four of `tool_script`'s readings on an archive in a file, in plain Rust over std and stock SQLite: the stretches of a driver, the
-//! overview of a month, and the chart of a driver's month and the evidence for its breaches. It takes the same lines, and answers a command
-//! that succeeds in the same way. docs/RULES.md says what stretches are.
+//! Runs five of `tool_script`'s readings on an archive in a file, in plain Rust over std and stock SQLite: the stretches of a driver and a
+//! forecast, the overview of a month, and the chart of a driver's month and the evidence for its breaches. It takes the same lines, and
+//! answers a command that succeeds in the same way. docs/RULES.md says what stretches are.
 #![allow(dead_code)]
 use std::env;
 use std::fmt::Write;
 
+mod ahead;
 mod archive;
 mod chart;
 #[path = "dump.rs"]
@@ -54,6 +55,21 @@ fn stretches_of(spans: &[Span], base: u32) -> Vec<Stretch> {
     stretches
 }
 
+fn push_from(lines: &mut Lines, monday: u32) {
+    lines.text.extend_from_slice(b"FROM ");
+    push_date(lines, monday);
+    lines.text.push(b'\n');
+}
+
+/// Appends the end of a stretch after which nothing is examined up to `end`.
+fn push_unseen(lines: &mut Lines, horizon: u32, end: u32) {
+    lines.text.extend_from_slice(b"NOT EXAMINED ");
+    lines.push_minute(horizon);
+    lines.text.push(b' ');
+    lines.push_minute(end);
+    lines.text.push(b'\n');
+}
+
 /// The stretches of a driver, as text.
 fn stretches(archive: &mut Database, driver: u32) -> Option<String> {
     let (base, spans) = archive.within("ROLLBACK", |archive| held_by(archive, driver))?;
@@ -62,20 +78,38 @@ fn stretches(archive: &mut Database, driver: u32) -> Option<String> {
     let ends = stretches.iter().skip(1).map(|stretch| stretch.monday).chain([end]);
     let mut lines = Lines::with_capacity(4096);
     for (Stretch { monday, report }, end) in stretches.iter().zip(ends) {
-        lines.text.extend_from_slice(b"FROM ");
-        push_date(&mut lines, *monday);
-        lines.text.push(b'\n');
+        push_from(&mut lines, *monday);
         report.breaches.iter().for_each(|breach| push_breach(&mut lines, breach));
         push_horizon(&mut lines, report);
         if report.horizon < end {
-            lines.text.extend_from_slice(b"NOT EXAMINED ");
-            lines.push_minute(report.horizon);
-            lines.text.push(b' ');
-            lines.push_minute(end);
-            lines.text.push(b'\n');
+            push_unseen(&mut lines, report.horizon, end);
         }
     }
     String::from_utf8(lines.text).ok()
+}
+
+/// The forecast for a driver from a minute on, as text.
+fn ahead(archive: &mut Database, driver: u32, minute: u32) -> Option<String> {
+    let (base, spans) = archive.within("ROLLBACK", |archive| held_by(archive, driver))?;
+    let Stretch { monday, report } = stretches_of(&spans, base).pop()?;
+    let end = spans.last().map_or(base, |span| span.past);
+    let mut lines = Lines::with_capacity(4096);
+    push_from(&mut lines, monday);
+    push_horizon(&mut lines, &report);
+    if report.horizon < end {
+        push_unseen(&mut lines, report.horizon, end);
+    } else {
+        ahead::push_ahead(&mut lines, &spans, monday, minute)?;
+    }
+    String::from_utf8(lines.text).ok()
+}
+
+/// The minute of a date and a time.
+fn minute_of(date: &str, time: &str) -> Option<u32> {
+    let (month, day) = date.rsplit_once('-')?;
+    let (hour, minute) = time.split_once(':')?;
+    let number = |text: &str| text.parse::<u32>().ok();
+    Some(DAY * (days_of(month)?.0 + number(day)? - 1) + 60 * number(hour)? + number(minute)?)
 }
 
 /// The numbers of a driver's row in an overview: the amounts of the month, the minutes of it that are examined, and the number of
@@ -147,6 +181,10 @@ fn answer_to(archive: &mut Database, line: &str) -> (String, u8) {
         },
         ["why", _, driver, month] => match script::number(driver) {
             Some(driver) => script::status_of(why(archive, driver, month)),
+            None => script::bad_number(),
+        },
+        ["ahead", _, driver, date, time] => match script::number(driver).zip(minute_of(date, time)) {
+            Some((driver, minute)) => script::status_of(ahead(archive, driver, minute)),
             None => script::bad_number(),
         },
         ["overview", _, month] => script::status_of(overview(archive, month)),
