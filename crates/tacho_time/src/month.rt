@@ -1,4 +1,4 @@
-ghost use Rattle.std.specs.Prelude.{◌≡◌, ℕ, ◌+◌, ◌*◌, ◌/◌, ◌%◌, ◌<◌, ◌≤◌, pos, ◌*ℤ◌};
+ghost use Rattle.std.specs.Prelude.{◌≡◌, ℕ, ◌+◌, ◌*◌, ◌/◌, ◌%◌, ◌<◌, ◌≤◌, pos, ◌*ℤ◌, MatchOption};
 ghost use Rattle.tacho_time.specs.Reading.{month_at, month_start};
 
 use crate::day::Day;
@@ -7,6 +7,9 @@ use crate::minute::Minute;
 use crate::read;
 use jiff_core::civil::Date;
 use std::marker::Model;
+
+/// The number of 2000-01.
+const FIRST: u32 = 24_000;
 
 /// A month of the years 2000 to 2099, by its number: twelve times its year, and the number of months of that year before it.
 #[derive(Clone, Copy, Debug, PartialEq, Eq, PartialOrd, Ord)]
@@ -61,6 +64,18 @@ impl Month {
         ensures { result ≡ self % 12 + 1 }
     {
         self.number % 12 + 1
+    }
+
+    /// Returns the month before this one, or `None` for 2000-01.
+    pub fn before(self) -> Option<Month>
+        ensures { MatchOption result (self ≡ 24000) (λ month. month + 1 ≡ self) }
+    {
+        if self.number == FIRST {
+            return None;
+        }
+        Some(Month {
+            number: self.number - 1,
+        })
     }
 }
 
