@@ -12,5 +12,5 @@ mod used;
 
 pub use limits::Limits;
 pub use open::{is_in_time, is_open};
-pub use outlook::{Outlook, look_ahead};
+pub use outlook::{Outlook, look_ahead, open_debts};
 pub use used::Used;

@@ -65,7 +65,7 @@ pub fn look_ahead(
         Activity::Rest,
         &mut found,
     )?;
-    let debts = open_debts(alloc, &scan, start, &mut found)?;
+    let debts = debts_at(alloc, &scan, start, &mut found)?;
     let first = start.number();
     let had = at_rest(alloc, &scan, first, &mut found)?;
     let limits = limits_at(&scan, start, &had, &mut found)?;
@@ -103,7 +103,7 @@ fn added_at(
 }
 
 /// Returns the open debts if rest is held up to `start`. `found` is afterwards as it was.
-fn open_debts(
+fn debts_at(
     alloc: Global,
     scan: &Scan,
     start: Minute,
@@ -118,13 +118,13 @@ fn open_debts(
     let breaches = found.breaches.len();
     let debts = found.debts.len();
     end_at(*scan, start, found)?;
-    let left = open_of(alloc, &found.debts, start)?;
+    let left = open_debts(alloc, &found.debts, start)?;
     forget(found, breaches, debts);
     Ok(left)
 }
 
 /// Returns the debts that aren't paid, with a deadline after a minute.
-fn open_of(alloc: Global, debts: &[Debt], minute: Minute) -> Result<Vec<Debt>, AllocError>
+pub fn open_debts(alloc: Global, debts: &[Debt], minute: Minute) -> Result<Vec<Debt>, AllocError>
     ensures { IfOk result (λ left. left.items ≡ filter (is_open_debt minute) debts.now) }
 {
     let mut left = Vec::new(alloc);

@@ -84,13 +84,13 @@ returns c =
     ready_of c.feed_within.new.self c.go_on.new.scan c.added_at.new.found c.go_on.new.found line base end start ends.none c.requires.within
     forward (omega (arith, in_time)) fed1
     (rw (c.number.ensures.value, c.number-2.ensures.value) at c.in_ok-go_on.ensures.fed) in
-    let ready2 = same_ready c.go_on.new.scan c.go_on.new.found c.open_debts.new.found held base start c.in_ok-debts.ensures.same ready in
-    let known2 : IsKnown c.go_on.new.scan c.open_debts.new.found c.in_ok-had.had.items held base start =
-    subst (λ (n : ℕ). IsKnown c.go_on.new.scan c.open_debts.new.found c.in_ok-had.had.items held base n) c.number-first.ensures.value
+    let ready2 = same_ready c.go_on.new.scan c.go_on.new.found c.debts_at.new.found held base start c.in_ok-debts.ensures.same ready in
+    let known2 : IsKnown c.go_on.new.scan c.debts_at.new.found c.in_ok-had.had.items held base start =
+    subst (λ (n : ℕ). IsKnown c.go_on.new.scan c.debts_at.new.found c.in_ok-had.had.items held base n) c.number-first.ensures.value
     (c.in_ok-had.ensures.known held base
-    (subst (λ (n : ℕ). IsReady c.go_on.new.scan c.open_debts.new.found held base n) (sym c.number-first.ensures.value) ready2)) in
+    (subst (λ (n : ℕ). IsReady c.go_on.new.scan c.debts_at.new.found held base n) (sym c.number-first.ensures.value) ready2)) in
     let known3 =
-    same_known c.go_on.new.scan c.open_debts.new.found c.at_rest.new.found c.in_ok-had.had.items held base start c.in_ok-had.ensures.same
+    same_known c.go_on.new.scan c.debts_at.new.found c.at_rest.new.found c.in_ok-had.had.items held base start c.in_ok-had.ensures.same
     known2 in
     let known4 = subst (λ (xs : List Breach). IsKnown c.go_on.new.scan c.at_rest.new.found xs held base start) (sym c.deref.ensures.value) known3 in
     let ready3 = known3.ready in

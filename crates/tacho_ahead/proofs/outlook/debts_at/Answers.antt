@@ -2,7 +2,7 @@ use Rattle.std.proofs.Common.{◌∙◌, ap, arith, List}
 use Rattle.std.specs.List.{filter}
 use Rattle.tacho_law.specs.declared.debt.Debt.{Debt}
 use Rattle.tacho_ahead.specs.Outlook.{is_open_debt}
-use Rattle.tacho_ahead.proofs.outlook.open_debts.Goals as goal
+use Rattle.tacho_ahead.proofs.outlook.debts_at.Goals as goal
 
 pub returns-clause-debts : goal.returns-clause-debts
 returns-clause-debts c = λ held base ready.
