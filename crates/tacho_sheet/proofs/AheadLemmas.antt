@@ -21,6 +21,7 @@ use Rattle.tacho_stretches.specs.Stretches.{Judged, judged_of, first_monday, uns
 use Rattle.tacho_ahead.specs.declared.limits.Limits.{Limits}
 use Rattle.tacho_ahead.specs.declared.used.Used.{Used}
 use Rattle.tacho_ahead.specs.Plans.{IsInTime, IsOpen}
+use Rattle.tacho_ahead.specs.Outlook.{IsOutlook}
 use Rattle.tacho_ahead.proofs.PlanLemmas.{none_from}
 use Rattle.tacho_ahead.proofs.MarkLemmas.{AgreeFrom, outlook_same}
 use Rattle.tacho_ahead.proofs.OneLemmas.{one_outlook}
@@ -34,14 +35,14 @@ use Rattle.tacho_sheet.proofs.TextLemmas.{pieces5}
 -- ---- the last stretch
 
 -- a list whose last member is this one
-abbrev EndsWith : List Stretch → Stretch → Type 0
+abbrev pub EndsWith : List Stretch → Stretch → Type 0
 EndsWith xs s = (front : List Judged) × (map judged_of xs ≡ front ++ judged_of s ∷ [])
 
 ends_more : (x s : Stretch) (xs : List Stretch) → EndsWith xs s → EndsWith (x ∷ xs) s
 ends_more x s xs (front, is) = (judged_of x ∷ front, ap (λ (l : List Judged). judged_of x ∷ l) is)
 
 -- the last of a list is after the others
-last_of : (xs : List Stretch) (s : Stretch) → 0 < length xs → s ≡ get_or xs (length xs - 1) s → EndsWith xs s
+pub last_of : (xs : List Stretch) (s : Stretch) → 0 < length xs → s ≡ get_or xs (length xs - 1) s → EndsWith xs s
 last_of [] s some is = absurd (omega (arith, some))
 last_of (x ∷ []) s some is = ([], ap (λ (y : Stretch). judged_of y ∷ []) (sym is))
 last_of (x ∷ y ∷ xs) s some is =
@@ -198,16 +199,28 @@ module _ (held line : List Span) (base : ℕ) (xs : List Stretch) (s : Stretch) 
   in_range : s.report.horizon.minute ≤ 68374080
   in_range = let le = after in omega (arith, le, early)
 
+  -- from the last stretch on, a line agrees with what is held
+  agree_from : All (λ (x : Span). x.past ≤ 68374080) line → AgreeFrom s.monday line held
+  agree_from within =
+      let (front, list) = last_of xs s some is in
+      let (end, is_end, last_is) = last_stretch held base (map judged_of xs) front (judged_of s) list are in
+      let later : base ≤ s.monday = last_is.later in
+      let same = agree_all held line base (map judged_of xs) front (judged_of s) list are none agree within in_range in
+      λ m l. same m (omega (arith, later, l))
+
   -- the forecast for a line is that for what is held
+  pub outlook_of : (limits : Limits) (used : Used) (coming : List Breach) (debts : List Debt)
+      → All (λ (x : Span). x.past ≤ 68374080) line → IsOutlook line s.monday start limits used coming debts
+      → IsOutlook held s.monday start limits used coming debts
+  outlook_of limits used coming debts within = outlook_same line held s.monday start limits used coming debts (agree_from within)
+
+  -- and so is its text
   pub ahead_of : (text forecast all : List ℕ) → All (λ (x : Span). x.past ≤ 68374080) line
       → text ≡ block (horizon_line s.report.horizon) (judged_of s) → all ≡ text ++ forecast → IsForecast line s.monday start forecast
       → IsAheadText held (map judged_of xs) minute all
   ahead_of text forecast all within written more forecast_is =
       let (front, list) = last_of xs s some is in
-      let (end, is_end, last_is) = last_stretch held base (map judged_of xs) front (judged_of s) list are in
-      let later : base ≤ s.monday = last_is.later in
-      let same = agree_all held line base (map judged_of xs) front (judged_of s) list are none agree within in_range in
-      let for_held = forecast_same line held s.monday start forecast (λ m l. same m (omega (arith, later, l))) forecast_is in
+      let for_held = forecast_same line held s.monday start forecast (agree_from within) forecast_is in
       record {
         front = front;
         last = judged_of s;
@@ -257,7 +270,7 @@ one_forecast_of held minute s None a b x y = one_forecast held s.monday (max min
 one_forecast_of held minute s (Some past) a b x y = x ∙ sym y
 
 -- a list has one last member
-one_last : (front front' : List Judged) (s t : Judged) → front ++ s ∷ [] ≡ front' ++ t ∷ [] → s ≡ t
+pub one_last : (front front' : List Judged) (s t : Judged) → front ++ s ∷ [] ≡ front' ++ t ∷ [] → s ≡ t
 one_last [] [] s t e = cc
 one_last [] (y ∷ []) s t e = cc
 one_last [] (y ∷ z ∷ front') s t e = cc

@@ -19,6 +19,8 @@ pub mod ChartLemmas
 mod PageFacts
 pub mod EvidenceLemmas
 pub mod AheadLemmas
+pub mod RowsLemmas
+pub mod RowLawLemmas
 pub mod WhyLemmas
 pub mod WhyLawLemmas
 mod FaultLemmas

@@ -16,7 +16,7 @@ use Rattle.tacho_sheet.specs.Form.{IsForm}
 
 -- ---- gaps, and spans as CSV
 
-gaps_same : (a b : List Span) (start past : ℕ) (gaps : List Gap) → AgreeWithin start past a b
+pub gaps_same : (a b : List Span) (start past : ℕ) (gaps : List Gap) → AgreeWithin start past a b
     → AreGaps a start past gaps → AreGaps b start past gaps
 gaps_same a b start past gaps e h = record {
   apart = h.apart;

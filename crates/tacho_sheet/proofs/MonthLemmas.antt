@@ -37,10 +37,10 @@ after_it a b m h = grind (arith, nat_tests)
 not_both : (a b m : ℕ) → b ≤ a → nat_le a m && nat_lt m b ≡ false
 not_both a b m h = grind (arith, nat_tests)
 
-count_none : (p : ℕ → Bool) (m n : ℕ) → ((i : ℕ) → m ≤ i → i < m + n → p i ≡ false) → count_from p m n ≡ 0
+pub count_none : (p : ℕ → Bool) (m n : ℕ) → ((i : ℕ) → m ≤ i → i < m + n → p i ≡ false) → count_from p m n ≡ 0
 count_none p m n h = count_same p (λ i. false) m n h ∙ count_const false m n
 
-count_every : (p : ℕ → Bool) (m n : ℕ) → ((i : ℕ) → m ≤ i → i < m + n → p i ≡ true) → count_from p m n ≡ n
+pub count_every : (p : ℕ → Bool) (m n : ℕ) → ((i : ℕ) → m ≤ i → i < m + n → p i ≡ true) → count_from p m n ≡ n
 count_every p m n h = count_same p (λ i. true) m n h ∙ count_const true m n
 
 -- the stretches after a stretch begin at its horizon or later

@@ -39,10 +39,13 @@ limit_line start kind None = []
 limit_line start kind (Some until) =
     kind_name kind ++ (codes " until " ++ (minute_text until ++ (codes " left " ++ (amount_text (until - start) ++ codes "\n"))))
 
+-- the rules that have a limit
+abbrev pub limited : List Kind
+limited = B1 ∷ B2 ∷ B3 ∷ B4 ∷ B5 ∷ B6 ∷ B7 ∷ B8 ∷ B9 ∷ []
+
 -- the limits, by rule
 abbrev pub limit_lines : ℕ → Limits → List ℕ
-limit_lines start limits =
-    flat_map (λ kind. limit_line start kind (limit_of limits kind)) (B1 ∷ B2 ∷ B3 ∷ B4 ∷ B5 ∷ B6 ∷ B7 ∷ B8 ∷ B9 ∷ [])
+limit_lines start limits = flat_map (λ kind. limit_line start kind (limit_of limits kind)) limited
 
 -- a forecast from `start` on
 pub record IsForecast (held : List Span) (base start : ℕ) (text : List ℕ) : Type 0 where

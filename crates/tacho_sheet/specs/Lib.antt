@@ -18,5 +18,8 @@ pub mod Chart
 pub mod Seen
 pub mod Evidence
 pub mod Ahead
+pub mod Cells
+pub mod Standing
+pub mod Forecast
 pub mod Why
 pub mod Written

@@ -1,20 +1,25 @@
 //! Laws about texts. A law is a function that does nothing: what it ensures is proved, and holds for everything that it names. Some call
 //! the laws on which they depend.
 
-ghost use Rattle.std.specs.Prelude.{◌≡◌, ◌+◌, ◌*◌, ◌<◌, ◌≤◌, ◌↔◌, ◌++◌, ℕ, List, [], Ok, codes, false, map, sum, true};
+ghost use Rattle.std.specs.Prelude.{◌≡◌, ◌+◌, ◌-◌, ◌*◌, ◌<◌, ◌≤◌, ◌↔◌, ◌++◌, ◌∷◌, ℕ, List, [], Ok, codes, false, length, map, sum, sum_by, true};
 ghost use Rattle.tacho_time.specs.declared.span.Span.{Span as SpanValue};
 ghost use Rattle.tacho_line.specs.declared.gap.Gap.{Gap};
 ghost use Rattle.tacho_line.specs.declared.horizon.Horizon.{Horizon as HorizonValue};
 ghost use Rattle.tacho_law.specs.declared.breach.Breach.{Breach as BreachValue};
 ghost use Rattle.tacho_law.specs.declared.breach.Kind.{Kind as KindValue};
+ghost use Rattle.tacho_law.specs.declared.debt.Debt.{Debt as DebtValue};
 ghost use Rattle.tacho_line.specs.Line.{mark_at, AgreeWithin, AreGaps, HoldsWithin, InGaps, IsWithin};
 ghost use Rattle.tacho_stretches.specs.Start.{IsEndOfHeld};
 ghost use Rattle.tacho_stretches.specs.Stretches.{AreAll, Judged};
-ghost use Rattle.tacho_sheet.specs.Reports.{columns, count_from, kind_name, column_minutes, AgreeIn, IsGapText, IsMonthSheet, IsSpanCsv};
-ghost use Rattle.tacho_sheet.specs.Months.{article, is_examined, kind_code, AreIncidentRows, IsOverviewRow};
+ghost use Rattle.tacho_sheet.specs.Reports.{columns, count_from, is_lacking, kind_name, column_minutes, paid_text, AgreeIn, IsGapText, IsMonthSheet, IsSpanCsv};
+ghost use Rattle.tacho_sheet.specs.Months.{article, count_of, is_examined, kind_code, kinds, AreIncidentRows, IsOverviewRow};
 ghost use Rattle.tacho_sheet.specs.Chart.{AreDayGroups, AreUnseen, HasDayGroup, IsMonthChart, ShowsMinute};
 ghost use Rattle.tacho_sheet.specs.Ahead.{IsAheadText, IsTooLate};
+ghost use Rattle.tacho_sheet.specs.Forecast.{IsForecastRow, SameForecast};
+ghost use Rattle.tacho_sheet.specs.Standing.{IsStandingRow};
 ghost use Rattle.tacho_sheet.specs.Why.{IsMonthWhy};
+ghost use Rattle.tacho_ahead.specs.Outlook.{is_open_debt};
+ghost use Rattle.tacho_state.specs.Summaries.{Summary};
 ghost use Rattle.tacho_time.specs.Spans.{IsCanonicalOf};
 ghost use Rattle.tacho_sheet.specs.Form.{AreRows as AreFormRows, Fills, filled_form, IsForm};
 ghost use Rattle.tacho_state.specs.Batch.{Hours, batch_of};
@@ -159,6 +164,41 @@ pub fn one_ahead_text()
         → IsAheadText held stretches minute b → a ≡ b }
     ensures in_time { (held : List SpanValue) (stretches : List Judged) (minute : ℕ) (text : List ℕ)
         → IsAheadText held stretches minute text → ¬ (IsTooLate stretches minute) }
+{}
+
+/// A driver has exactly one row of how they stand in a month, and exactly one row of the forecast from a minute on.
+pub fn one_row_of_a_driver()
+    ensures standing { (driver : Summary) (line : List SpanValue) (base : ℕ) (stretches : List Judged) (month : ℕ) (a b : List ℕ)
+        → IsStandingRow driver line base stretches month a → IsStandingRow driver line base stretches month b → a ≡ b }
+    ensures forecast { (driver : Summary) (held : List SpanValue) (base : ℕ) (stretches : List Judged) (minute : ℕ) (a b : List ℕ)
+        → IsForecastRow driver held base stretches minute a → IsForecastRow driver held base stretches minute b → a ≡ b }
+{
+    one_list_of_gaps();
+}
+
+/// The numbers of breaches of each rule add up to the number of breaches. So an overview counts as many as a row of how a driver stands.
+pub fn counts_of_rules_add_up()
+    ensures { (breaches : List BreachValue) → sum (map (count_of breaches) kinds) ≡ length breaches }
+{}
+
+/// Gaps have as many minutes as aren't held in their range. So those that a row of how a driver stands calls unknown are those of the form.
+pub fn gaps_add_up()
+    ensures { (line : List SpanValue) (base end : ℕ) (gaps : List Gap) → base ≤ end → AreGaps line base end gaps
+        → sum_by (λ (g : Gap). g.past - g.start) gaps ≡ column_minutes line base (end - base) is_lacking }
+{}
+
+/// A debt counts as open at a horizon exactly if the text of debts calls it open there.
+pub fn open_debts_are_called_open()
+    ensures { (horizon : ℕ) (debt : DebtValue)
+        → (paid_text horizon debt.deadline debt.paid_by ≡ codes "open") ↔ (is_open_debt horizon debt ≡ true) }
+{}
+
+/// A driver's row of the forecast has the start, the limits and what is used from the driver's own forecast. If something is held after the
+/// last stretch, its cells are empty.
+pub fn rows_have_the_forecast_of_ahead()
+    ensures { (driver : Summary) (held : List SpanValue) (base : ℕ) (stretches : List Judged) (minute : ℕ) (row text : List ℕ)
+        → IsForecastRow driver held base stretches minute row → IsAheadText held stretches minute text
+        → (front : List Judged) × (last : Judged) × (stretches ≡ front ++ last ∷ []) × SameForecast last.unseen row text }
 {}
 
 /// Once the hours that fill in each row of a form are entered, no gap remains.

@@ -3,12 +3,14 @@
 
 mod ahead;
 mod amounts;
+mod cells;
 mod chart;
 mod done;
 mod driver;
 mod entries;
 mod evidence;
 mod fault;
+mod forecast;
 mod form;
 mod key;
 pub mod laws;
@@ -18,6 +20,7 @@ mod number;
 mod reports;
 mod rows;
 mod sheet;
+mod standing;
 mod stretches;
 mod text;
 mod why;
@@ -31,6 +34,7 @@ pub use done::{
 pub use driver::{read_driver, read_holder};
 pub use entries::read_entries;
 pub use fault::{Fault, LeftOut, SheetFault};
+pub use forecast::{forecast_head, push_forecast};
 pub use form::form_text;
 pub use key::read_key_line;
 pub use lines::{FaultLine, fault_line, push_bytes};
@@ -38,6 +42,7 @@ pub use months::{incident_head, overview_head, push_incidents, push_overview};
 pub use number::read_number;
 pub use reports::{breach_text, gap_text, owed_text, span_csv};
 pub use sheet::month_sheet;
+pub use standing::{push_standing, standing_head};
 pub use stretches::{debt_text, stretch_text};
 pub use text::{driver_text, entry_text, file_text};
 pub use why::why_text;

@@ -181,7 +181,7 @@ pub(crate) fn name_of_kind(kind: Kind) -> &'static str
 }
 
 /// Why the examination ends.
-fn name_of_cause(cause: Cause) -> &'static str
+pub(crate) fn name_of_cause(cause: Cause) -> &'static str
     ensures { result.now ≡ cause_name cause }
 {
     match cause {
