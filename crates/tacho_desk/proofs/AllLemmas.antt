@@ -2,11 +2,13 @@
 use Rattle.std.proofs.Common.{◌≡◌, ◌<◌, ◌+◌, ◌*◌, ◌∙◌, ◌++◌, ℕ, zero, suc, List, [], ◌∷◌, Option, None, Some, Ok, refl, sym, ap, subst}
 use Rattle.std.proofs.Common.{arith, append_assoc, get_or, length, map, take}
 use Rattle.std.specs.List.{All}
-use Rattle.std.specs.Prelude.{IfSome}
+use Rattle.std.specs.Prelude.{IfSome, true}
+use Rattle.std.specs.Option.{is_some}
 use Rattle.std.proofs.lemmas.List.{append-nil}
 use Rattle.std.proofs.lemmas.List.{get_or-map, length-map}
 use Rattle.std.proofs.lemmas.List.Elements.{All-get_or, All-map}
 use Rattle.std.proofs.lemmas.List.Sorted.{All-permutation}
+use Rattle.tacho_time.specs.Limits.{greatest_minute}
 use Rattle.tacho_time.specs.declared.span.Span.{Span}
 use Rattle.tacho_line.specs.Line.{AgreeWithin}
 use Rattle.tacho_stretches.proofs.LawLemmas.{none_left_out}
@@ -17,7 +19,9 @@ use Rattle.tacho_state.specs.Steps.{report_reading, reading_of}
 use Rattle.tacho_state.specs.Summaries.{AreSummaries, Summary, summary_of, told_summary}
 use Rattle.tacho_state.specs.declared.summary.DriverSummary.{DriverSummary}
 use Rattle.tacho_sheet.specs.Months.{AreIncidentRows, IsOverviewRow}
+use Rattle.tacho_sheet.specs.Forecast.{IsForecastRow}
 use Rattle.tacho_sheet.specs.Reports.{AreBounds}
+use Rattle.tacho_sheet.specs.Standing.{IsStandingRow}
 use Rattle.tacho_sheet.proofs.MarkLemmas.{overview_same}
 use Rattle.tacho_desk.specs.Tasks.{AreOfEach, OfStretches}
 use Rattle.tacho_desk.proofs.ShownLemmas.{agree_in}
@@ -87,6 +91,31 @@ pub none_yet : (head : List ℕ) (Is : Summary → Driver → List ℕ → Type 
 none_yet head Is drivers text s is = ([], is ∙ sym (append-nil head), refl)
 
 -- ---- a driver's part of the text
+
+-- the text for a driver who exists, by what they hold from the base on
+pub of_base : (Is : List Span → ℕ → List Judged → List ℕ → Type 0) (o : Option Driver) (line : List Span) (stretches : List Judged)
+    (before after : List ℕ) → reading_of {A = Unit {0}} (λ d. Ok tt) o ≡ Ok tt
+    → IfSome o (λ d. AgreeWithin (1440 * d.base) greatest_minute line (held_spans d))
+    → IfSome o (λ d. AreStretches (held_spans d) (1440 * d.base) stretches)
+    → ((held : List Span) (base : ℕ) → AreStretches held base stretches → AgreeWithin base greatest_minute line held
+    → (row : List ℕ) × (after ≡ before ++ row) × Is held base stretches row)
+    → (d : Driver) × (o ≡ Some d) × (row : List ℕ) × (after ≡ before ++ row)
+    × OfStretches (λ stretches. Is (held_spans d) (1440 * d.base) stretches) d row
+of_base Is None line stretches before after there agree are pushed = cc
+of_base Is (Some d) line stretches before after there agree are pushed =
+    let row = pushed (held_spans d) (1440 * d.base) are agree in (d, refl, row.0, row.1, (stretches, are, row.2))
+
+-- what is said of an answer that is there
+pub when_some : (P : Type 0) (o : Option (Unit {0})) → true ≡ is_some o → IfSome o (λ _. P) → P
+when_some P None some is = absurd (let wrong = some in cc)
+when_some P (Some x) some is = is
+
+-- the row of how a driver stands in a month; and below, the row of a forecast
+abbrev pub IsStandingOf : ℕ → Summary → Driver → List ℕ → Type 0
+IsStandingOf month x d = OfStretches (λ stretches. IsStandingRow x (held_spans d) (1440 * d.base) stretches month) d
+
+abbrev pub IsForecastOf : ℕ → Summary → Driver → List ℕ → Type 0
+IsForecastOf minute x d = OfStretches (λ stretches. IsForecastRow x (held_spans d) (1440 * d.base) stretches minute) d
 
 -- the row of a month's overview; and below, the rows of its incidents
 abbrev pub IsOverviewOf : ℕ → Summary → Driver → List ℕ → Type 0

@@ -37,6 +37,7 @@ kinds_of want.File = Driver ∷ Number ∷ []
 kinds_of want.Drivers = AnyDriver ∷ []
 kinds_of want.Version = []
 kinds_of want.Ahead = Driver ∷ DateOfTime ∷ Time ∷ []
+kinds_of want.Forecast = DateOfTime ∷ Time ∷ []
 kinds_of (want.MonthOfAll text) = Month ∷ []
 
 -- ---- one argument
@@ -106,6 +107,8 @@ refused_first want.Drivers [] word time caller.Office f = grind arith
 refused_first want.Drivers driver word time c f = grind arith
 refused_first want.Version driver word time c f = after_archive (no_more task.Version f)
 refused_first (want.MonthOfAll text) driver word time c f = after_archive (time_last (λ m. task.MonthOfAll m text) (month_at word) f)
+refused_first want.Forecast driver word time c f =
+    after_archive (after_archive (time_last (λ m. task.Forecast m) (minute_at (minute_text_of word time)) f))
 refused_first want.Ahead driver word time c f =
     after_archive (driver_first (λ n w. w ≡ by_time (minute_at (minute_text_of word time)) (λ m. Ok (task.Ahead n m))) c driver f
     (λ n. after_archive (time_last (λ m. task.Ahead n m) (minute_at (minute_text_of word time)) f)))

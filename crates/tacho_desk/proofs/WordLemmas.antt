@@ -41,4 +41,5 @@ task_once want.Drivers caller.Office (digit ∷ driver) word time a b x y = of_d
 task_once want.Drivers (caller.Driver n) driver word time a b x y = of_driver (caller.Driver n) driver _ a b x y
 task_once want.Version c driver word time a b x y = x ∙ sym y
 task_once (want.MonthOfAll text) c driver word time a b x y = x ∙ sym y
+task_once want.Forecast c driver word time a b x y = x ∙ sym y
 task_once want.Ahead c driver word time a b x y = of_driver c driver _ a b x y

@@ -6,7 +6,7 @@ use Rattle.tacho_desk.specs.declared.argument.Argument.TheVariants.{AnyDriver, A
 use Rattle.tacho_desk.specs.declared.table.Act.{Act}
 use Rattle.tacho_desk.specs.declared.table.Act.TheVariants.{AtDesk, Card, Check, Dump, Holder, Init, Listen, Migrate, Serve, Version}
 use Rattle.tacho_desk.specs.declared.table.Command.{Command}
-use Rattle.tacho_desk.specs.declared.want.MonthOfAll.TheVariants.{Incidents, Overview}
+use Rattle.tacho_desk.specs.declared.want.MonthOfAll.TheVariants.{Incidents, Overview, Standing}
 use Rattle.tacho_desk.specs.declared.want.MonthReading.TheVariants.{Chart, Gaps, Sheet, Spans, Why}
 use Rattle.tacho_desk.specs.declared.want.Reading.TheVariants.{Breaches, Debts, Entries, Files, Form, Owed, Stretches}
 use Rattle.tacho_desk.specs.declared.want.Want.TheVariants.{
@@ -15,6 +15,7 @@ use Rattle.tacho_desk.specs.declared.want.Want.TheVariants.{
   Drivers,
   Enter,
   File,
+  Forecast,
   Import,
   Key,
   MonthOfAll,
@@ -92,6 +93,8 @@ all_commands =
     ∷ row (codes "debts") (Archive ∷ Driver ∷ []) (AtDesk (Reading Debts)) (codes "/drivers/{driver}/debts" ∷ codes "/me/debts" ∷ [])
     ∷ row (codes "ahead") (Archive ∷ Driver ∷ DateOfTime ∷ Time ∷ []) (AtDesk Ahead)
     (codes "/drivers/{driver}/ahead/{word}/{time}" ∷ codes "/me/ahead/{word}/{time}" ∷ [])
+    ∷ row (codes "forecast") (Archive ∷ DateOfTime ∷ Time ∷ []) (AtDesk Forecast) (codes "/forecast/{word}/{time}" ∷ [])
+    ∷ row (codes "standing") (Archive ∷ Month ∷ []) (AtDesk (MonthOfAll Standing)) (codes "/standing/{word}" ∷ [])
     ∷ row (codes "overview") (Archive ∷ Month ∷ []) (AtDesk (MonthOfAll Overview)) (codes "/overview/{word}" ∷ [])
     ∷ row (codes "incidents") (Archive ∷ Month ∷ []) (AtDesk (MonthOfAll Incidents)) (codes "/incidents/{word}" ∷ [])
     ∷ row (codes "form") (Archive ∷ Driver ∷ []) (AtDesk (Reading Form)) (codes "/drivers/{driver}/form" ∷ codes "/me/form" ∷ [])

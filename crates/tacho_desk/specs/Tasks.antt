@@ -30,6 +30,8 @@ use Rattle.tacho_sheet.specs.Entries.{IsRead, Lines}
 use Rattle.tacho_sheet.specs.Form.{IsForm}
 use Rattle.tacho_sheet.specs.Key.{IsKeyLine, IsKeyRead}
 use Rattle.tacho_sheet.specs.Months.{overview_head, IsOverviewRow, incident_head, AreIncidentRows}
+use Rattle.tacho_sheet.specs.Forecast.{forecast_head, IsForecastRow}
+use Rattle.tacho_sheet.specs.Standing.{standing_head, IsStandingRow}
 use Rattle.tacho_sheet.specs.Stretches.{stretch_text, debt_text}
 use Rattle.tacho_sheet.specs.Chart.{IsMonthChart}
 use Rattle.tacho_sheet.specs.Reports.{breach_text, owed_text, IsGapText, IsMonthSheet, IsSpanCsv}
@@ -180,8 +182,17 @@ abbrev pub IsOfAll : List ℕ → (Summary → Driver → List ℕ → Type 0) �
 IsOfAll head Is s text =
     (summaries : List Summary) × AreSummaries s summaries × (rows : List ℕ) × (text ≡ head ++ rows) × AreOfEach Is s summaries rows
 
+-- the forecast for all drivers
+abbrev pub ShowsForecast : ℕ → State → Doing
+ShowsForecast m s answer after =
+    IsText (IsOfAll forecast_head (λ x d. OfStretches (λ stretches. IsForecastRow x (held_spans d) (1440 * d.base) stretches m) d) s) answer
+    × (after ≡ s)
+
 -- a text of a month of all drivers
 abbrev pub ShowsMonthOfAll : MonthOfAll → ℕ → State → Doing
+ShowsMonthOfAll all.Standing m s answer after =
+    IsText (IsOfAll standing_head (λ x d. OfStretches (λ stretches. IsStandingRow x (held_spans d) (1440 * d.base) stretches m) d) s) answer
+    × (after ≡ s)
 ShowsMonthOfAll all.Overview m s answer after =
     IsText (IsOfAll overview_head (λ x d. OfStretches (λ stretches. IsOverviewRow x.number x.name (held_spans d) stretches m) d) s) answer
     × (after ≡ s)
@@ -201,6 +212,7 @@ want_of (task.Key n) = want.Key
 want_of (task.Reading n text) = want.Reading text
 want_of (task.MonthReading n m text) = want.MonthReading text
 want_of (task.Ahead n minute) = want.Ahead
+want_of (task.Forecast minute) = want.Forecast
 want_of (task.File n number) = want.File
 want_of task.Drivers = want.Drivers
 want_of (task.Driver n) = want.Drivers
@@ -218,6 +230,7 @@ Does (task.Key n) input s = Rekeys n input s
 Does (task.Reading n text) input s = ShowsReading text n s
 Does (task.MonthReading n m text) input s = ShowsMonth text m n s
 Does (task.Ahead n minute) input s = ShowsAhead minute n s
+Does (task.Forecast minute) input s = ShowsForecast minute s
 Does (task.File n number) input s = ShowsFile n number s
 Does task.Drivers input s = ShowsDrivers s
 Does (task.Driver n) input s = ShowsDriver n s

@@ -102,5 +102,7 @@ IsTask want.File c driver word time wanted =
 IsTask want.Drivers c driver word time wanted = IsDriversTask c driver wanted
 IsTask want.Version c driver word time wanted = wanted ≡ Ok task.Version
 IsTask (want.MonthOfAll text) c driver word time wanted = wanted ≡ by_time (month_at word) (λ month. Ok (task.MonthOfAll month text))
+IsTask want.Forecast c driver word time wanted =
+    wanted ≡ by_time (minute_at (minute_text_of word time)) (λ minute. Ok (task.Forecast minute))
 IsTask want.Ahead c driver word time wanted =
     ByDriver c driver (λ n w. w ≡ by_time (minute_at (minute_text_of word time)) (λ minute. Ok (task.Ahead n minute))) wanted

@@ -7,12 +7,12 @@ use self::Act::{AtDesk, Card, Check, Dump, Holder, Init, Listen, Migrate, Serve,
 use crate::argument::Argument::{
     self, AnyDriver, Archive, Count, Date, DateOfTime, Driver, Month, Number, Part, Port, Time,
 };
-use crate::want::MonthOfAll::{Incidents, Overview};
+use crate::want::MonthOfAll::{Incidents, Overview, Standing};
 use crate::want::MonthReading::{Chart, Gaps, Sheet, Spans, Why};
 use crate::want::Reading::{Breaches, Debts, Entries, Files, Form, Owed, Stretches};
 use crate::want::Want::{
-    self, Ahead, Base, Drivers, Enter, File, Import, Key, MonthOfAll, MonthReading, Reading,
-    Register, Withdraw,
+    self, Ahead, Base, Drivers, Enter, File, Forecast, Import, Key, MonthOfAll, MonthReading,
+    Reading, Register, Withdraw,
 };
 
 /// What a command does.
@@ -56,7 +56,7 @@ pub struct Command {
 }
 
 /// The commands.
-static COMMANDS: [Command; 32] = [
+static COMMANDS: [Command; 34] = [
     Command {
         name: "dump",
         about: "Prints the spans in the value of an EF Driver_Activity_Data (0504), one per line",
@@ -241,6 +241,20 @@ static COMMANDS: [Command; 32] = [
             "/drivers/{driver}/ahead/{word}/{time}",
             "/me/ahead/{word}/{time}",
         ],
+    },
+    Command {
+        name: "forecast",
+        about: "Prints for all drivers, as CSV, the minute of the limit of each rule if they drive on from a minute, and what is used by then",
+        arguments: &[Archive, DateOfTime, Time],
+        act: AtDesk(Forecast),
+        paths: &["/forecast/{word}/{time}"],
+    },
+    Command {
+        name: "standing",
+        about: "Prints all drivers as CSV: how far each is held and examined, gaps, the breaches of a month and of the month before, and open debts",
+        arguments: &[Archive, Month],
+        act: AtDesk(MonthOfAll(Standing)),
+        paths: &["/standing/{word}"],
     },
     Command {
         name: "overview",

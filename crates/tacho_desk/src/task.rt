@@ -62,6 +62,10 @@ pub enum Task {
         driver: u32,
         minute: Minute,
     },
+    /// Reads the forecast for all drivers from a minute on.
+    Forecast {
+        minute: Minute,
+    },
     /// Reads a card file of the archive.
     File {
         driver: u32,
@@ -106,6 +110,7 @@ pub fn carry_out<K: Keeper>(
         } => readings::show_month(alloc, keeper, driver, month, reading),
         Task::MonthOfAll { month, reading } => all::show_month(alloc, keeper, month, reading),
         Task::Ahead { driver, minute } => readings::ahead(alloc, keeper, driver, minute),
+        Task::Forecast { minute } => all::forecast(alloc, keeper, minute),
         Task::File { driver, number } => readings::file(alloc, keeper, driver, number),
         Task::Drivers => readings::drivers(alloc, keeper),
         Task::Driver { driver } => readings::driver(alloc, keeper, driver),

@@ -21,6 +21,8 @@ pub enum Want {
     MonthOfAll(MonthOfAll),
     /// Read the forecast for a driver from a minute on.
     Ahead,
+    /// Read the forecast for all drivers from a minute on, as CSV.
+    Forecast,
     /// Read a card file of the archive.
     File,
     /// List all drivers, or one of them.
@@ -66,6 +68,9 @@ pub enum MonthReading {
 /// A text about a month of all drivers, as CSV.
 #[derive(Clone, Copy, Debug, PartialEq, Eq)]
 pub enum MonthOfAll {
+    /// A row for each driver: what is held and how far it is examined, the gaps, the number of breaches in the month and in the month before,
+    /// and the open debts.
+    Standing,
     /// A row for each driver: what they hold, how much of it is examined, and the number of breaches of each rule.
     Overview,
     /// A row for each breach.

@@ -161,6 +161,10 @@ pub fn task_of(caller: Caller, wish: Wish<'_>) -> Result<Task, Fault>
             let minute = minute_of(word, time)?;
             Ok(Task::Ahead { driver, minute })
         }
+        Want::Forecast => {
+            let minute = minute_of(word, time)?;
+            Ok(Task::Forecast { minute })
+        }
         Want::MonthOfAll(reading) => {
             let month = Month::read(word)?;
             Ok(Task::MonthOfAll { month, reading })

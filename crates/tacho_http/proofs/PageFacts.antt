@@ -102,8 +102,8 @@ own_file = refl
 pub own_form : reply_to (want.Reading reading.Form) (Ok (Long (codes "start\n"))) ≡ record { status = status.Okay; media = media.Csv; body = codes "start\n" }
 own_form = refl
 
-pub types : map media_of (want.MonthReading month.Chart ∷ want.MonthOfAll all.Overview ∷ want.MonthOfAll all.Incidents ∷ want.Reading reading.Files ∷ want.MonthReading month.Spans ∷ [])
-    ≡ media.Svg ∷ media.Csv ∷ media.Csv ∷ media.Text ∷ media.Text ∷ []
+pub types : map media_of (want.MonthReading month.Chart ∷ want.MonthOfAll all.Standing ∷ want.MonthOfAll all.Overview ∷ want.MonthOfAll all.Incidents ∷ want.Forecast ∷ want.Reading reading.Files ∷ want.MonthReading month.Spans ∷ [])
+    ≡ media.Svg ∷ media.Csv ∷ media.Csv ∷ media.Csv ∷ media.Csv ∷ media.Text ∷ media.Text ∷ []
 types = refl
 
 -- ---- the statuses of requests that were done

@@ -5,11 +5,11 @@ use Rattle.matchit.proofs.RenameLemmas.{first-rename}
 use Rattle.matchit.specs.Router.{rename}
 use Rattle.matchit.specs.Rows.{RowsOf, param_token}
 use Rattle.matchit.specs.Seek.{after_param, first, step}
-use Rattle.tacho_desk.specs.declared.want.MonthOfAll.TheVariants.{Incidents, Overview}
+use Rattle.tacho_desk.specs.declared.want.MonthOfAll.TheVariants.{Incidents, Overview, Standing}
 use Rattle.tacho_desk.specs.declared.want.MonthReading.TheVariants.{Chart, Gaps, Sheet, Spans, Why}
 use Rattle.tacho_desk.specs.declared.want.Reading.TheVariants.{Breaches, Debts, Entries, Files, Form, Owed, Stretches}
 use Rattle.tacho_desk.specs.declared.want.Want.{Want}
-use Rattle.tacho_desk.specs.declared.want.Want.TheVariants.{Ahead, Base, Drivers, Enter, File, Import, Key, MonthOfAll, MonthReading, Reading, Register, Version, Withdraw}
+use Rattle.tacho_desk.specs.declared.want.Want.TheVariants.{Ahead, Base, Drivers, Enter, File, Forecast, Import, Key, MonthOfAll, MonthReading, Reading, Register, Version, Withdraw}
 use Rattle.tacho_message.specs.declared.method.Method.TheVariants.{Get, Post}
 use Rattle.tacho_http.specs.Routes.{Named, named_in, routes, with_offers}
 use Rattle.tacho_http.proofs.RouteLemmas.{by_bytes, by_param, goes_on, of_place}
@@ -53,6 +53,8 @@ office_gets =
     ∷ names (codes "/drivers/17/chart/2024-03") Office (MonthReading Chart) (codes "17") (codes "2024-03")
     ∷ names (codes "/overview/2024-03") Office (MonthOfAll Overview) [] (codes "2024-03")
     ∷ names (codes "/incidents/2024-03") Office (MonthOfAll Incidents) (codes "s") (codes "2024-03")
+    ∷ names (codes "/standing/2024-03") Office (MonthOfAll Standing) [] (codes "2024-03")
+    ∷ names_at (codes "/forecast/2024-03-04/12:00") Office Forecast [] (codes "2024-03-04") (codes "12:00")
     ∷ names (codes "/version") Office Version [] (codes "version")
     ∷ nothing (codes "/drivers//owed") ∷ nothing (codes "/drivers/") ∷ []
 

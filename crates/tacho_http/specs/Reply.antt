@@ -89,6 +89,7 @@ media_of want.File = media.Octets
 media_of (want.Reading reading.Form) = media.Csv
 media_of (want.MonthReading month.Chart) = media.Svg
 media_of (want.MonthOfAll reading) = media.Csv
+media_of want.Forecast = media.Csv
 media_of want = media.Text
 
 -- 201 if something was added

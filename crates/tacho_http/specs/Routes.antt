@@ -6,11 +6,11 @@ use Rattle.matchit.specs.Route.{Scan, parse_route}
 use Rattle.matchit.specs.Router.{RouteOf, route_from}
 use Rattle.matchit.specs.Seek.{first}
 use Rattle.matchit.specs.declared.error.InsertError.{InsertError}
-use Rattle.tacho_desk.specs.declared.want.MonthOfAll.TheVariants.{Incidents, Overview}
+use Rattle.tacho_desk.specs.declared.want.MonthOfAll.TheVariants.{Incidents, Overview, Standing}
 use Rattle.tacho_desk.specs.declared.want.MonthReading.TheVariants.{Chart, Gaps, Sheet, Spans, Why}
 use Rattle.tacho_desk.specs.declared.want.Reading.TheVariants.{Breaches, Debts, Entries, Files, Form, Owed, Stretches}
 use Rattle.tacho_desk.specs.declared.want.Want.{Want}
-use Rattle.tacho_desk.specs.declared.want.Want.TheVariants.{Ahead, Base, Drivers, Enter, File, Import, Key, MonthOfAll, MonthReading, Reading, Register, Version, Withdraw}
+use Rattle.tacho_desk.specs.declared.want.Want.TheVariants.{Ahead, Base, Drivers, Enter, File, Forecast, Import, Key, MonthOfAll, MonthReading, Reading, Register, Version, Withdraw}
 use Rattle.tacho_desk.specs.Words.{Wish, wish_in}
 use Rattle.tacho_message.specs.declared.method.Method.{Method}
 use Rattle.tacho_message.specs.declared.method.Method.TheVariants as method
@@ -64,6 +64,8 @@ office_table =
     ∷ table_row (codes "/drivers/{driver}/ahead/{word}/{time}") Office (Some Ahead) None
     ∷ table_row (codes "/overview/{word}") Office (Some (MonthOfAll Overview)) None
     ∷ table_row (codes "/incidents/{word}") Office (Some (MonthOfAll Incidents)) None
+    ∷ table_row (codes "/standing/{word}") Office (Some (MonthOfAll Standing)) None
+    ∷ table_row (codes "/forecast/{word}/{time}") Office (Some Forecast) None
     ∷ table_row (codes "/version") Office (Some Version) None
     ∷ table_row (codes "/drivers/{driver}/key") Office None (Some Key)
     ∷ []
@@ -142,6 +144,7 @@ front_part path = take (length path - (length (last_part path) + 1)) path
 -- the word of what is asked for: the last part of a path; of a forecast the part before it, since the last is its time
 abbrev pub word_part : Want → List ℕ → List ℕ
 word_part Ahead path = last_part (front_part path)
+word_part Forecast path = last_part (front_part path)
 word_part want path = last_part path
 
 -- who may ask at a path, and for what

@@ -203,7 +203,7 @@ fn word_of(want: Want, path: &[u8]) -> &[u8]
     ensures { result.now ≡ word_part want path.now }
 {
     match want {
-        Want::Ahead => last_of(front_of(path)),
+        Want::Ahead | Want::Forecast => last_of(front_of(path)),
         _ => last_of(path),
     }
 }

@@ -116,7 +116,7 @@ fn media_of(want: Want) -> MediaType
     match want {
         Want::File => MediaType::Octets,
         Want::MonthReading(MonthReading::Chart) => MediaType::Svg,
-        Want::Reading(Reading::Form) | Want::MonthOfAll(_) => MediaType::Csv,
+        Want::Reading(Reading::Form) | Want::MonthOfAll(_) | Want::Forecast => MediaType::Csv,
         _ => MediaType::Text,
     }
 }

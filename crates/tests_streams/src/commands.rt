@@ -235,7 +235,7 @@ fn writers_fail_at_each_call(rt: HostRuntime) -> Result<(), Fail> {
 }
 
 /// Arguments, and the job that they name.
-static JOBS: [(&[&str], Job<'static>); 33] = [
+static JOBS: [(&[&str], Job<'static>); 35] = [
     (&["tacho", "dump"], Job::Dump),
     (&["tacho", "holder"], Job::Holder),
     (&["tacho", "card", "first"], Job::Card { part: "first" }),
@@ -498,6 +498,30 @@ static JOBS: [(&[&str], Job<'static>); 33] = [
         }),
     ),
     (
+        &["tacho", "forecast", "a.db", "2024-03-07", "12:00"],
+        Job::AtDesk(DeskJob {
+            archive: "a.db",
+            wish: Wish {
+                want: Want::Forecast,
+                driver: b"",
+                word: b"2024-03-07",
+                time: b"12:00",
+            },
+        }),
+    ),
+    (
+        &["tacho", "standing", "a.db", "2024-03"],
+        Job::AtDesk(DeskJob {
+            archive: "a.db",
+            wish: Wish {
+                want: Want::MonthOfAll(MonthOfAll::Standing),
+                driver: b"",
+                word: b"2024-03",
+                time: b"",
+            },
+        }),
+    ),
+    (
         &["tacho", "overview", "a.db", "2024-03"],
         Job::AtDesk(DeskJob {
             archive: "a.db",
@@ -650,6 +674,8 @@ Commands:
   stretches  Prints a driver's breaches by all examinations, and what isn't examined
   debts      Prints the rest that a driver owes or has paid, by all examinations
   ahead      Prints how much is left until the limit of each rule if a driver drives on from a minute, and what is used and owed by then
+  forecast   Prints for all drivers, as CSV, the minute of the limit of each rule if they drive on from a minute, and what is used by then
+  standing   Prints all drivers as CSV: how far each is held and examined, gaps, the breaches of a month and of the month before, and open debts
   overview   Prints a month of all drivers as CSV: what is held, how much of it is examined, and how many breaches there are of each rule
   incidents  Prints the breaches of a month of all drivers as CSV
   form       Prints a driver's gaps as CSV, to fill in and enter

@@ -112,7 +112,7 @@ pub(crate) fn archive_after(alloc: Global, count: usize) -> Result<Shelf, Fail> 
 }
 
 /// Jobs that have no input.
-static WITHOUT_INPUT: [Job<'static>; 15] = [
+static WITHOUT_INPUT: [Job<'static>; 17] = [
     Job::AtDesk(DeskJob {
         archive: "a.db",
         wish: Wish {
@@ -228,6 +228,24 @@ static WITHOUT_INPUT: [Job<'static>; 15] = [
             driver: b"17",
             word: b"",
             time: b"",
+        },
+    }),
+    Job::AtDesk(DeskJob {
+        archive: "a.db",
+        wish: Wish {
+            want: Want::MonthOfAll(MonthOfAll::Standing),
+            driver: b"",
+            word: b"2024-03",
+            time: b"",
+        },
+    }),
+    Job::AtDesk(DeskJob {
+        archive: "a.db",
+        wish: Wish {
+            want: Want::Forecast,
+            driver: b"",
+            word: b"2024-03-07",
+            time: b"12:00",
         },
     }),
     Job::AtDesk(DeskJob {

@@ -1,4 +1,4 @@
-//! The texts of stretches, of a month of all drivers, and of the form for gaps, as commands on an archive.
+//! The texts of stretches, of all drivers, and of the form for gaps, as commands on an archive.
 
 use crate::desk::{answer, performed};
 use crate::faulty::Faulty;
@@ -23,8 +23,17 @@ const OVERVIEW: Want = Want::MonthOfAll(MonthOfAll::Overview);
 
 const INCIDENTS: Want = Want::MonthOfAll(MonthOfAll::Incidents);
 
+const STANDING: Want = Want::MonthOfAll(MonthOfAll::Standing);
+
 /// Commands on an archive without drivers.
-static OF_NOBODY: [Asked; 7] = [
+static OF_NOBODY: [Asked; 8] = [
+    (
+        STANDING,
+        "",
+        "2024-03",
+        "driver,name,files,held,horizon,cause,gaps,unknown,first,last_month,breaches,debts,owes,by\n",
+        0,
+    ),
     (
         OVERVIEW,
         "",
@@ -47,7 +56,7 @@ static OF_NOBODY: [Asked; 7] = [
 ];
 
 /// Commands with bad arguments, on any archive. The driver is checked before the month.
-static IN_WRONG_WORDS: [Asked; 21] = [
+static IN_WRONG_WORDS: [Asked; 24] = [
     (STRETCHES, "0", "", "N1 bad number\n", 1),
     (STRETCHES, "017", "", "N1 bad number\n", 1),
     (STRETCHES, "1000000", "", "N1 bad number\n", 1),
@@ -67,6 +76,9 @@ static IN_WRONG_WORDS: [Asked; 21] = [
     (INCIDENTS, "", "2024-13", "Z2 no such date\n", 1),
     (INCIDENTS, "", "1999-12", "Z3 out of range\n", 1),
     (INCIDENTS, "", "2100-01", "Z3 out of range\n", 1),
+    (STANDING, "", "2024-03-04", "Z1 not of the shape\n", 1),
+    (STANDING, "", "2024-13", "Z2 no such date\n", 1),
+    (STANDING, "", "1999-12", "Z3 out of range\n", 1),
     (
         Want::MonthReading(MonthReading::Sheet),
         "017",
@@ -84,7 +96,7 @@ static IN_WRONG_WORDS: [Asked; 21] = [
 ];
 
 /// Commands on an archive with two drivers: one holds hours of two Mondays, the other none.
-static OF_TWO: [Asked; 11] = [
+static OF_TWO: [Asked; 14] = [
     (
         STRETCHES,
         "17",
@@ -182,6 +194,39 @@ driver,name,rest,available,work,drive,crew,none,examined,B1,B2,B3,B4,B5,B6,B7,B8
         "",
         "2024-04",
         "driver,name,kind,article,moment,since,amount\n",
+        0,
+    ),
+    (
+        STANDING,
+        "",
+        "2024-03",
+        "\
+driver,name,files,held,horizon,cause,gaps,unknown,first,last_month,breaches,debts,owes,by
+5,Ben Olsen,0,,2024-03-11 00:00,unknown,0,0,,0,0,0,0,
+17,Anna Berg,0,2024-03-11 11:00,2024-03-11 11:00,unknown,1,9060,2024-03-04 17:00,0,1,0,0,
+",
+        0,
+    ),
+    (
+        STANDING,
+        "",
+        "2024-04",
+        "\
+driver,name,files,held,horizon,cause,gaps,unknown,first,last_month,breaches,debts,owes,by
+5,Ben Olsen,0,,2024-03-11 00:00,unknown,0,0,,0,0,0,0,
+17,Anna Berg,0,2024-03-11 11:00,2024-03-11 11:00,unknown,1,9060,2024-03-04 17:00,1,0,0,0,
+",
+        0,
+    ),
+    (
+        STANDING,
+        "",
+        "2000-01",
+        "\
+driver,name,files,held,horizon,cause,gaps,unknown,first,last_month,breaches,debts,owes,by
+5,Ben Olsen,0,,2024-03-11 00:00,unknown,0,0,,0,0,0,0,
+17,Anna Berg,0,2024-03-11 11:00,2024-03-11 11:00,unknown,1,9060,2024-03-04 17:00,0,0,0,0,
+",
         0,
     ),
 ];
@@ -318,6 +363,53 @@ fn a_forecast_is_of_a_minute(rt: HostRuntime) -> Result<(), Fail> {
             "of {driver}, {word} {time}"
         );
         assert!(rt; status == wanted, "of {driver}, {word} {time}");
+    }
+    Ok(())
+}
+
+/// A day, a time, and the expected text and status of the forecast for all drivers. Past 2099 the cells are empty.
+static FORECASTS_OF_ALL: [(&str, &str, &str, u8); 5] = [
+    (
+        "2024-03-11",
+        "11:00",
+        "\
+driver,name,from,held,start,B1,B2,B3,B4,B5,B6,B7,B8,B9,reduced,extended,before,week
+5,Ben Olsen,2024-03-11,,2024-03-11 11:00,2024-03-11 15:30,2024-03-12 02:00,,2024-03-11 21:00,,2024-03-13 19:00,2024-03-15 05:00,2024-03-17 11:00,2024-03-24 23:59,0,0,0,0
+17,Anna Berg,2024-03-11,2024-03-11 11:00,2024-03-11 11:00,2024-03-11 11:30,2024-03-11 22:00,,2024-03-11 17:00,,2024-03-13 15:00,2024-03-15 01:00,2024-03-17 07:00,2024-03-24 23:59,0,0,0,240
+",
+        0,
+    ),
+    (
+        "2099-10-29",
+        "13:00",
+        "\
+driver,name,from,held,start,B1,B2,B3,B4,B5,B6,B7,B8,B9,reduced,extended,before,week
+5,Ben Olsen,2024-03-11,,,,,,,,,,,,,,,
+17,Anna Berg,2024-03-11,2024-03-11 11:00,,,,,,,,,,,,,,
+",
+        0,
+    ),
+    ("2024-03-11", "7:00", "Z1 not of the shape\n", 1),
+    ("2024-02-30", "07:00", "Z2 no such date\n", 1),
+    ("1999-12-31", "07:00", "Z3 out of range\n", 1),
+];
+
+#[test]
+fn a_forecast_of_all_drivers_has_a_row_for_each(rt: HostRuntime) -> Result<(), Fail> {
+    let mut shelf = archive_of_two(rt.alloc())?;
+    for (word, time, text, wanted) in FORECASTS_OF_ALL {
+        let job = Job::AtDesk(DeskJob {
+            archive: "a.db",
+            wish: Wish {
+                want: Want::Forecast,
+                driver: b"",
+                word: word.as_bytes(),
+                time: time.as_bytes(),
+            },
+        });
+        let (written, status) = answer(rt.alloc(), &mut shelf, job, b"")?;
+        assert!(rt; written.as_slice() == text.as_bytes(), "of {word} {time}");
+        assert!(rt; status == wanted, "of {word} {time}");
     }
     Ok(())
 }
