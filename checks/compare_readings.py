@@ -1,13 +1,16 @@
 #!/usr/bin/env python3
-"""Compares the readings of stretches, of a month of all drivers, of a month's chart, of the evidence for its breaches, of card files, of
-forecasts and of the form for gaps with expected outputs and with the slow office.
+"""Compares the readings of stretches, of all drivers, of a month's chart, of the evidence for its breaches, of card files, of forecasts and
+of the form for gaps with expected outputs and with the slow office; and those of all drivers with those of each.
 
 The folders of checks/readings have commands, their input files, and what the readings print after them, computed by a program that shares
 no code with this repository. Of a chart they have the lines of lib/charts.py. Then come random archives of two drivers: weeks with gaps and
 crew at any place, often at a Monday's first minute or beside it; bases before, within and after what is held; and the last minutes of 2099.
 Each form is filled in and entered: then no gap is left. Arguments: the program and `tool_script`. The last line is 'N passed, M failed'."""
+import csv
+import datetime
 import os
 import random
+import re
 import subprocess
 import sys
 import tempfile
@@ -15,7 +18,7 @@ from typing import Any
 
 from inputs import random_cards
 from inputs.random_commands import KEYS, date_text, driver_csv
-from lib import charts, counting, files, pools, seeds
+from lib import charts, counting, files, pools, script, seeds
 from lib.advice import without_advice
 from lib.readings import FOLDER, steps_of, words_of
 from lib.script import of_commands
@@ -144,27 +147,34 @@ def commands_of(seed):
         commands.append((list(command[0]), command[1]))
         return office.answer(*commands[-1])[0]
 
-    months = set()
+    months, pasts = set(), []
     for place, number in enumerate(NUMBERS):
         weeks = Weeks(chance, LAST_DAY + 1)
         months.update(weeks.months())
+        pasts.append(min(weeks.past, LAST_DAY))
         holder = random_cards.HOLDERS[place]
         add(["register"], driver_csv(number, holder, KEYS[place], weeks.base(), NAMES[place]))
         if chance.random() < 0.95:
             add(["import", "both"], weeks.file(holder))
 
+    # Half a day after the weeks that end first: a slow forecast from years after a horizon on takes long.
+    minute = [date_text(min(pasts)), "12:00"]
+
     def read():
         forms = []
+        add(["drivers"], b"")
+        add(["forecast", *minute], b"")
         for number in map(str, NUMBERS):
             add(["stretches", number], b"")
             add(["debts", number], b"")
             add(["files", number], b"")
-            add(["ahead", number, f"{max(months)}-01", "12:00"], b"")
+            add(["ahead", number, *minute], b"")
             forms.append((number, add(["form", number], b"")))
         for month in sorted(months):
             for number in map(str, NUMBERS):
                 add(["chart", number, month], b"")
                 add(["why", number, month], b"")
+            add(["standing", month], b"")
             add(["overview", month], b"")
             add(["incidents", month], b"")
         return forms
@@ -177,7 +187,9 @@ def commands_of(seed):
 
 def of_seed(program, seed):
     """The comparisons of a seed's commands, of an archive in a file and in memory."""
-    yield from of_commands(program, f"seed {seed}", commands_of(seed))
+    commands = commands_of(seed)
+    yield from of_commands(program, f"seed {seed}", commands)
+    yield from of_all_drivers(program, seed, commands)
 
 
 def of_forms(seed):
@@ -195,13 +207,91 @@ def of_forms(seed):
         yield f"seed {seed}: no gap of driver {number} is left", form, b"start,past,activity,author,note\n"
 
 
+# Readings of all drivers, beside those of each
+
+
+def told_in_turn(commands, answers):
+    """What each reading has told, by its arguments: before the forms were entered, and after."""
+    told = [{}]
+    for (words, _), (text, _) in zip(commands, answers, strict=True):
+        if words[0] != "enter":
+            told[-1][" ".join(words)] = text.decode()
+        elif told[-1]:
+            told.append({})
+    return told
+
+
+def rows_in(text):
+    """The rows of CSV, each by the names of its columns."""
+    return list(csv.DictReader(text.split("\n")))
+
+
+def breaches_in(row):
+    """The number of breaches in a row of an overview."""
+    return str(sum(int(row[f"B{kind}"]) for kind in range(1, 11)))
+
+
+def minutes_from(start, past):
+    """The minutes from one minute to another."""
+    start, past = map(datetime.datetime.fromisoformat, (start, past))
+    return (past - start) // datetime.timedelta(minutes=1)
+
+
+def lacking_in(form):
+    """The number of gaps in a form, their minutes, and their first minute. Rows that touch are one gap."""
+    rows = [row.split(",")[:2] for row in form.splitlines()[1:]]
+    pasts = {past for _, past in rows}
+    starts = [start for start, _ in rows if start not in pasts]
+    return [str(len(starts)), str(sum(minutes_from(*row) for row in rows)), *starts[:1]]
+
+
+def limits_in(ahead):
+    """The cells that a forecast has from `start` on, by what `ahead` tells: they are empty where that has no forecast."""
+    def told(line):
+        found = re.search(f"^{line}", ahead, re.MULTILINE)
+        return found[1] if found else ""
+
+    used = [told(line) for line in ("REDUCED (.*)", "EXTENDED (.*)")]
+    driven = re.findall(r"^DRIVEN \S+ (\d+):(\d+)", ahead, re.MULTILINE)
+    used += [str(60 * int(hours) + int(minutes)) for hours, minutes in driven] or ["", ""]
+    return [told("START (.*)"), *(told(rf"B{kind} \S+ \S+ until (.{{16}})") for kind in range(1, 10)), *used]
+
+
+def of_all_drivers(program, seed, commands):
+    """The comparisons of what the program tells of all drivers with what it tells of each."""
+    with tempfile.TemporaryDirectory() as folder:
+        answers = script.answers([program, "shelf"], folder, commands)[1:-1]
+    for place, told in enumerate(told_in_turn(commands, answers)):
+        name = f"seed {seed}, {['before', 'after'][place]} the forms"
+        drivers = [line.split(" ")[0] for line in told["drivers"].splitlines()]
+        counts = {words.split(" ")[1]: {row["driver"]: breaches_in(row) for row in rows_in(text)}
+                  for words, text in told.items() if words.startswith("overview ")}
+        minute = next(words.removeprefix("forecast ") for words in told if words.startswith("forecast "))
+        forecast = rows_in(told[f"forecast {minute}"])
+        yield f"{name}: the drivers of the forecast", [row["driver"] for row in forecast], drivers
+        for row in forecast:
+            number = row["driver"]
+            yield f"{name}: the forecast of driver {number}", list(row.values())[4:], limits_in(told[f"ahead {number} {minute}"])
+        for month in counts:
+            standing = rows_in(told[f"standing {month}"])
+            before = f"{datetime.date.fromisoformat(f'{month}-01') - datetime.timedelta(days=1)}"[:7]
+            yield f"{name}: the drivers of {month}", [row["driver"] for row in standing], drivers
+            for row in standing:
+                number, of = row["driver"], f"{name}: driver {row['driver']} in {month}"
+                yield f"{of}: breaches", row["breaches"], counts[month][number]
+                if before in counts:
+                    yield f"{of}: breaches of the month before", row["last_month"], counts[before][number]
+                lacking = [row[column] for column in ("gaps", "unknown", "first") if row[column]]
+                yield f"{of}: gaps", lacking, lacking_in(told[f"form {number}"])
+
+
 # All
 
 
-def comparisons(program: str, script: str) -> counting.Comparisons:
-    program, script = os.path.abspath(program), os.path.abspath(script)
+def comparisons(program: str, tool: str) -> counting.Comparisons:
+    program, tool = os.path.abspath(program), os.path.abspath(tool)
     questions: list[tuple[Any, ...]] = [(of_case, program, case) for case in sorted(os.listdir(FOLDER))]
-    questions += [(of_seed, script, seed) for seed in range(SEEDS)] + [(of_forms, seed) for seed in range(SEEDS // 4)]
+    questions += [(of_seed, tool, seed) for seed in range(SEEDS)] + [(of_forms, seed) for seed in range(SEEDS // 4)]
     yield from pools.of_questions(questions, PROCESSES)
 
 

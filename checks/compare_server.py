@@ -29,8 +29,9 @@ from lib.advice import without_any
 from lib.office import WITH_ANNA, Desk
 from lib.programs import version_lines
 from lib.office_rows import (
-    ANNA, BERT, BREACH, CARD, DAY, DAY_OFF, DAY_OFF_LINE, EXAMINED, FREE_DAYS, FREE_LINE, GAPS, HOLDER, HOURS_HEAD, INCIDENT_HEAD,
-    LARGEST_DAY, LARGEST_HOURS, LIMIT, LONG_NOTE, MARCH, NO_AUTHOR, OVERVIEW_HEAD, SATURDAY, SIGNED_HEAD, SPANS, UNSEEN,
+    ANNA, BERT, BREACH, CARD, DAY, DAY_OFF, DAY_OFF_LINE, EXAMINED, FORECAST_HEAD, FREE_DAYS, FREE_LINE, GAPS, HOLDER, HOURS_HEAD,
+    INCIDENT_HEAD, LARGEST_DAY, LARGEST_HOURS, LIMIT, LONG_NOTE, MARCH, NO_AUTHOR, OVERVIEW_HEAD, SATURDAY, SIGNED_HEAD, SPANS,
+    STANDING_BERT, STANDING_HEAD, UNSEEN,
 )
 from lib.server import (
     ADDED, BAD, BAD_KEY, BAD_NUMBER, BREACHES, COUNTED, CSV, DRIVER, ENDED, FORBIDDEN, HOST, LARGE_HEAD, NO_DATE, NO_LENGTH, NO_PORT,
@@ -131,6 +132,17 @@ WITHOUT_NUMBER = [f"/me/{end}" for end in OF_ANNA]
 # What can be read of all drivers: each path, the text where there is no driver, Anna's line, and Bert's.
 OF_ALL = {
     "/drivers": ("", f"17 {HOLDER} 2024-03-04 1 1 Anna Berg\n", f"18 {HOLDER[:-1]}4 2024-02-05 0 0 Bert\n"),
+    f"/forecast/{MINUTE}": (
+        FORECAST_HEAD,
+        f"17,Anna Berg,2024-03-04,2024-03-11 00:00{14 * ','}\n",
+        "18,Bert,2024-02-05,,2024-03-05 12:00,2024-03-05 16:30,2024-03-06 03:00,,2024-03-05 22:00,,2024-03-07 20:00,2024-03-09 06:00,"
+        "2024-03-11 12:00,2024-03-17 23:59,0,0,0,0\n",
+    ),
+    f"/standing/{MONTH}": (
+        STANDING_HEAD,
+        "17,Anna Berg,1,2024-03-11 00:00,2024-03-04 17:00,unknown,2,5700,2024-03-04 17:00,0,1,0,0,\n",
+        STANDING_BERT,
+    ),
     f"/overview/{MONTH}": (
         OVERVIEW_HEAD,
         "17,Anna Berg,3840,0,30,510,0,40260,1020,1,0,0,0,0,0,0,0,0,0\n",
@@ -141,7 +153,9 @@ OF_ALL = {
 FOR_OFFICE = [*OF_ALL, *WITH_NUMBER]
 
 # The types of what isn't TEXT, by a part of its path.
-TYPES = {"/files/": STORED, "/chart/": SVG, "/form": CSV, "/overview/": CSV, "/incidents/": CSV}
+TYPES = {
+    "/files/": STORED, "/chart/": SVG, "/form": CSV, "/forecast/": CSV, "/standing/": CSV, "/overview/": CSV, "/incidents/": CSV,
+}
 
 
 def type_of(path):
@@ -161,7 +175,10 @@ def bad_months(path, key):
     return [row(f"GET {path.replace(MONTH, text)}", key, line("400 Bad Request", len(fault) + 1, fault)) for text, fault in faults.items()]
 
 
-# What follows `ahead` in a path that isn't one.
+# A forecast that goes past 2099.
+NO_FORECAST = f"17,Anna Berg,2024-03-04,2024-03-11 00:00{14 * ','}\n18,Bert,2024-02-05,{14 * ','}\n"
+
+# What follows `ahead` or `forecast` in a path that isn't one.
 NO_MINUTES = ["", "/", "/2024-03-05", "/2024-03-05/", "//12:00", "/2024-03-05/12:00/", "/2024-03-05/12/00", "/2024/03/05/12:00"]
 
 # By the end of a path: the fault of a minute.
@@ -195,6 +212,7 @@ ROWS = {
         *[read(path, OFFICE, head + anna) for path, (head, anna, _) in OF_ALL.items()],
         posted("/drivers", OFFICE, BERT, line("201 Created", 14, "registered 18")),
         *[read(path, OFFICE, head + anna + bert) for path, (head, anna, bert) in OF_ALL.items()],
+        *[read(f"/forecast/{minute}", OFFICE, FORECAST_HEAD + NO_FORECAST) for minute in ["2099-10-29/13:00", "2099-12-31/23:59"]],
         *[read(f"/drivers/17/{end}", OFFICE, text) for end, text in OF_ANNA.items()],
         *[read(f"/drivers/18/{end}", OFFICE, text) for end, text in OF_BERT.items()],
         *[read(f"/me/{end}", DRIVER, text) for end, text in OF_ANNA.items()],
@@ -250,7 +268,8 @@ ROWS = {
         *[row(f"GET {path.removesuffix(MONTH)}", OFFICE, NOT_FOUND) for path in FOR_OFFICE if path.endswith(MONTH)],
         *[row(f"GET {path.removesuffix(f'/{MONTH}')}", DRIVER, NOT_FOUND)
           for path in [*FOR_OFFICE, *WITHOUT_NUMBER] if path.endswith(MONTH)],
-        *[row(f"GET {who}/ahead{end}", key, NOT_FOUND) for who, key in (("/drivers/17", OFFICE), ("/me", DRIVER)) for end in NO_MINUTES],
+        *[row(f"GET {path}{end}", key, NOT_FOUND)
+          for path, key in (("/drivers/17/ahead", OFFICE), ("/me/ahead", DRIVER), ("/forecast", OFFICE)) for end in NO_MINUTES],
         *[row(f"GET {path.replace('17', '')}", OFFICE, NOT_FOUND) for path in WITH_NUMBER],
         *[row(f"GET /me{path}", DRIVER, NOT_FOUND) for path in OF_ALL],
         *[row(f"GET /drivers/17{path}", OFFICE, NOT_FOUND) for path in OF_ALL],
@@ -266,6 +285,9 @@ ROWS = {
         *[bad for path in WITHOUT_NUMBER if path.endswith(MONTH) for bad in bad_months(path, DRIVER)],
         *bad_minutes("/drivers/17/ahead", OFFICE),
         *bad_minutes("/me/ahead", DRIVER),
+        *bad_minutes("/forecast", OFFICE),
+        *[row(f"GET /{path}", DRIVER, FORBIDDEN) for path in ["forecast/2024-03-05/24:00", "standing/2024-13"]],
+        row("GET /forecast/2024-03-05/12:00?all", OFFICE, line("400 Bad Request", 20, "Z1 not of the shape")),
         row("GET /drivers/0/ahead/2024-02-30/9:00", OFFICE, BAD_NUMBER),
         row("GET /drivers/18/ahead/2024-02-30/12:00", OFFICE, NO_DATE),
         row("GET /drivers/18/ahead/2099-12-31/23:59", OFFICE, line("404 Not Found", 18, "S4 unknown driver")),

@@ -64,6 +64,8 @@ CASES = {
     "evidence": ([*WITH_HOURS, GAP], (["why", "17", "2024-03"], b"")),
     "a forecast": ([*WITH_HOURS, GAP], (["ahead", "17", "2024-03-11", "12:00"], b"")),
     "debts": ([*WITH_HOURS, GAP], (["debts", "17"], b"")),
+    "the forecast for all": ([*WITH_HOURS, GAP, OTHER], (["forecast", "2024-03-11", "12:00"], b"")),
+    "how all stand": ([*WITH_HOURS, GAP, OTHER], (["standing", "2024-03"], b"")),
     "an overview": ([*WITH_HOURS, GAP, OTHER], (["overview", "2024-03"], b"")),
     "incidents": ([*WITH_HOURS, GAP, OTHER], (["incidents", "2024-03"], b"")),
     "a form": ([*WITH_HOURS, GAP], (["form", "17"], b"")),

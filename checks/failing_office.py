@@ -14,14 +14,13 @@ from typing import Any
 
 from lib import counting, pools, programs
 from lib.failing import (
-    ANNA, CONTRADICT, ENTER, GIVEN_UP, NO_FILE, OF_SCHEMA_1, SIGNED, STORE_FAILED, UNSOUND, WITH_DAY, WITH_HOURS, Office,
+    ANNA, CARL, CONTRADICT, ENTER, GIVEN_UP, NO_FILE, OF_SCHEMA_1, SIGNED, STORE_FAILED, UNSOUND, WITH_DAY, WITH_HOURS, Office,
 )
 from lib.office_rows import HOLDER, NOON, OTHER_DAY
 
 PROCESSES = 2
 STEP = 43  # one in 43 of the allocations of an opening is refused
 BERT = (["register"], f"driver,holder,key,base,name\n18,{HOLDER},bert-key-1,2024-03-04,Bert Holm\n".encode())
-OTHER = (["register"], f"driver,holder,key,base,name\n9,{HOLDER[:-1]}9,carl-key-1,2024-03-04,Carl Ek\n".encode())
 GAP = (["enter", "17"], b"start,past,activity\n2024-03-11 00:00,2024-03-11 07:00,rest\n2024-03-11 07:00,2024-03-11 12:00,drive\n")
 WITH_GAP = [*WITH_HOURS, GAP]
 
@@ -38,7 +37,7 @@ CASES = {
     "a withdrawal": (WITH_HOURS, (["withdraw", "17", "2"], b"")),
     "another base": (WITH_DAY, (["base", "17", "2024-03-11"], b"")),
     "another key": (WITH_DAY, (["key", "17"], b"anna-key-2\n")),
-    "a taken key": ([ANNA, OTHER], (["key", "17"], b"carl-key-1")),
+    "a taken key": ([ANNA, CARL], (["key", "17"], b"carl-key-1")),
     "a migration": (OF_SCHEMA_1, (["migrate"], b"")),
     "an old archive": (OF_SCHEMA_1, (["drivers"], b"")),
     "spans": (WITH_HOURS, (["spans", "17", "2024-03"], b"")),
@@ -48,14 +47,16 @@ CASES = {
     "what is owed": (WITH_HOURS, (["owed", "17"], b"")),
     "entries": ([*WITH_HOURS, SIGNED], (["entries", "17"], b"")),
     "a file": (WITH_HOURS, (["file", "17", "1"], b"")),
-    "drivers": ([*WITH_HOURS, OTHER], (["drivers"], b"")),
-    "a sound archive": ([*WITH_GAP, SIGNED, OTHER], (["check"], b"")),
+    "drivers": ([*WITH_HOURS, CARL], (["drivers"], b"")),
+    "a sound archive": ([*WITH_GAP, SIGNED, CARL], (["check"], b"")),
     "an unsound archive": (UNSOUND, (["check"], b"")),
     "stretches": (WITH_GAP, (["stretches", "17"], b"")),
     "a forecast": (WITH_GAP, (["ahead", "17", "2024-03-11", "12:00"], b"")),
     "debts": (WITH_GAP, (["debts", "17"], b"")),
-    "an overview": ([*WITH_GAP, OTHER], (["overview", "2024-03"], b"")),
-    "incidents": ([*WITH_GAP, OTHER], (["incidents", "2024-03"], b"")),
+    "the forecast for all": ([*WITH_GAP, CARL], (["forecast", "2024-03-11", "12:00"], b"")),
+    "how all stand": ([*WITH_GAP, CARL], (["standing", "2024-03"], b"")),
+    "an overview": ([*WITH_GAP, CARL], (["overview", "2024-03"], b"")),
+    "incidents": ([*WITH_GAP, CARL], (["incidents", "2024-03"], b"")),
     "a form": (WITH_GAP, (["form", "17"], b"")),
     "a bad month": (WITH_HOURS, (["sheet", "17", "2024-13"], b"")),
 }

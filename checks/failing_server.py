@@ -14,7 +14,7 @@ import tempfile
 from collections import namedtuple
 
 from lib import counting, failing, programs
-from lib.failing import ANNA, CONTRADICT, SIGNED, WITH_DAY, WITH_HOURS
+from lib.failing import ANNA, CARL, CONTRADICT, SIGNED, WITH_DAY, WITH_HOURS
 from lib.office_rows import DAY, OTHER_DAY
 from lib.server import DRIVER, HOST, OFFICE, SECONDS, UNAVAILABLE, Serving, asking, posting
 
@@ -43,6 +43,8 @@ CASES = {
     "evidence": Case(WITH_HOURS, asking("GET /me/why/2024-03", DRIVER)),
     "a forecast": Case(WITH_HOURS, asking("GET /me/ahead/2024-03-11/12:00", DRIVER)),
     "a chart": Case(WITH_HOURS, asking("GET /drivers/17/chart/2024-03", OFFICE)),
+    "the forecast for all": Case([*WITH_HOURS, CARL], asking("GET /forecast/2024-03-11/12:00", OFFICE)),
+    "how all stand": Case([*WITH_HOURS, CARL], asking("GET /standing/2024-03", OFFICE)),
     "an overview": Case(WITH_HOURS, asking("GET /overview/2024-03", OFFICE)),
     "a bad month": Case(WITH_HOURS, asking("GET /me/sheet/2024-13", DRIVER)),
     "an unknown path": Case(WITH_HOURS, asking("GET /nothing", DRIVER)),

@@ -49,6 +49,7 @@ KEPT = [
     (LINES, f"register PATH\n{DRIVER_HEAD}18,{HOLDER[:-1]}4,bert-key-1,2024-03-05,Bert".encode(), "a base on a Tuesday"),
     (LINES, b"enter -- PATH 18\nstart,past,activity,author,note\n", "two hyphens before the path, and a sentence on standard error"),
     (LINES, b"key PATH 17\nanna-key-1\r\n", "a driver's own key"),
+    (LINES, b"import PATH both\n" + bytes.fromhex(CARD + "0504000010" "00000000" "0000000d") + bytes(8), "a record of 13 bytes"),
     (REQUESTS, b"\n\r\nGET /drivers/17/breaches HTTP/1.0\nX-KEY:office-key-1\n\r\n\0GET", "ends of lines of both forms"),
 ]
 

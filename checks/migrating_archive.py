@@ -42,6 +42,9 @@ MIGRATED = (b"migrated\n", 0, b"")
 # What is refused before its arguments and its input are looked at.
 BAD_COMMANDS = ["import whole", "enter 017", "withdraw 17 0", "base 17 2024-02-30", "sheet 17 2024-13", "breaches 18", "file 17 2"]
 
+# The readings of all drivers.
+OF_ALL = [["drivers"], ["forecast", "2024-03-05", "12:00"], ["standing", "2024-03"]]
+
 # In the archive of one driver, before it is carried over and after that.
 ENTERED = [(["enter", "17"], office_rows.FREE_DAYS), (["withdraw", "17", "1"], b"")]
 
@@ -191,6 +194,8 @@ def of_worked(program, name):
         for number in office.archive.drivers:
             for words in readings_of(number, ["2024-03"]):
                 yield f"{name}: {words}", *desk.both(words)
+        for words in OF_ALL:
+            yield f"{name}: {words}", *desk.both(words)
         yield desk.tables(name)
 
 
@@ -208,7 +213,7 @@ def of_example(program, name, make):
         desk = OldDesk(program, folder, old_archive.office_after(old_archive.EXAMPLE), make)
         yield from of_old(desk, name)
         yield from desk.carried(name)
-        for words in [["drivers"], *readings_of(17, ["2024-03"]), *readings_of(18, ["2024-02", "2024-03"]), *readings_of(19, ["2024-03"])]:
+        for words in [*OF_ALL, *readings_of(17, ["2024-03"]), *readings_of(18, ["2024-02", "2024-03"]), *readings_of(19, ["2024-03"])]:
             yield f"{name}: {words}", *desk.both(words)
         for words, given in [(["enter", "18"], DAY_OFF), (["enter", "17"], NO_AUTHOR), (["entries", "18"], b"")]:
             yield f"{name}: {words}", *desk.both(words, given)

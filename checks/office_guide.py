@@ -394,13 +394,22 @@ def rows_of(done):
 LONG_DAYS = [*[(day, 6, 21, "work") for day in (4, 5, 6)], (7, 6, 12, "work")]
 
 
+# A driver of whom nothing is held.
+BERT = b"driver,holder,key,base,name\n18,0d4431323334353637383930313234,bert-key-1,2024-03-04,Bert Falk\n"
+
+
 def mornings(office):
-    """A forecast, and what is reported once the driver has driven on up to its first limit, and a minute more."""
+    """How all drivers stand, their forecasts, and what is reported once one has driven on up to the first limit, and a minute more."""
     with another_archive(office, "mornings"):
         rows = rows_of(LONG_DAYS)
         yield "three long days", office.told("enter", "17", given=hours_csv(rows)), f"entered 1 to {len(rows)}\n"
         forecast = office.block("FROM 2024-03-04\nEXAMINED TO 2024-03-07 12:00")
         yield office.typed("tacho ahead archive.db 17", forecast)
+        yield "a driver of whom nothing is held", office.told("register", given=BERT), "registered 18\n"
+        yield office.typed("tacho standing archive.db 2024-03", "")
+        yield "how the drivers of the page stand", office.read("standing-2024-03.csv"), office.block("driver,name,files,held")
+        yield office.typed("tacho forecast archive.db 2024-03-07", "")
+        yield "the forecasts of the page", office.read("forecast.csv"), office.block("driver,name,from,held")
         yield "the first limit of the page", "\nB1 Art 7 until 2024-03-07 16:30 left 4:30\n" in forecast, True
         for past, told in (("16:30", []), ("16:31", ["B1 Art 7 at 2024-03-07 16:30 since 2024-03-07 12:00 amount 1\n"])):
             number = office.told("entries", "17").count("\n") + 1

@@ -85,7 +85,7 @@ AUDITOR = Order(
         LAWYER,
         ("texts that come in and go out",
          "tacho_time: Text Reading Calendar; tacho_sheet: Rows Words Entries Driver Number Key Text Reports Done Lines"
-         " Stretches Months Form Chart Evidence Why Ahead"),
+         " Stretches Months Form Chart Evidence Why Ahead Cells Standing Forecast"),
         ("the program's arguments, and what it does without an archive and at one",
          "tacho_cli: Words Asked Office Files Listen Command Dump Card Holder Version Fault"),
         ("the rest: streams, out of memory, and terms of spans and lines",

@@ -53,6 +53,10 @@ OTHER_PATHS = [
     "/overview",
     "/overview/2024-03/17",
     "/incidents/",
+    "/forecast/2024-03-05",
+    "/me/forecast/2024-03-05/12:00",
+    "/standing",
+    "/me/standing/2024-03",
     "/me/chart/",
     "/me/drivers",
     "/me/overview/2024-03",
@@ -167,7 +171,8 @@ class Requests(office_lines.Lines):
         # The last path has the most arguments.
         place = -1 if others else 0
         path = OWN_PATHS[command][place] if is_own else PATHS[command][place]
-        driver, *ends = ["", *others] if len(others) < 2 and "{driver}" not in PATHS[command][place] else others
+        has_driver = command == "own" or "{driver}" in PATHS[command][place]
+        driver, *ends = others if has_driver else ["", *others]
         for end in ends:
             path = path.replace("{word}" if "{word}" in path else "{time}", end, 1)
         fields = [("x-key", (self.key_of(others[0]) if others else self.any_key()) if is_own else self.office_key)]
@@ -248,7 +253,7 @@ class Requests(office_lines.Lines):
 
     def large_body(self, parts: Parts) -> None:
         """A body of about as many bytes as it may have."""
-        limit = slow_office.INPUT_LIMIT + self.chance.choice([0, 0, 1])
+        limit = slow_office.INPUT_LIMIT + self.chance.choice([0, 1])
         body = parts.body or b"\n"
         parts.body = padded_file(body, limit) if "/cards/" in parts.target else body + (limit - len(body)) * b"\n"
         parts.fields = parts.without("content-length") + [("content-length", str(len(parts.body)))]
@@ -258,7 +263,7 @@ class Requests(office_lines.Lines):
         kinds: list[Callable[[Parts], None]] = [self.other_method, self.other_path, self.other_key, self.other_key]
         kinds += [self.same_key_twice, self.other_length]
         kinds += [self.other_length, self.coded, self.short_body, self.many_fields, self.long_head]
-        self.chance.choice(kinds * 4 + [self.large_body])(parts)
+        self.chance.choice(kinds * 2 + [self.large_body])(parts)
 
     # Bytes
 

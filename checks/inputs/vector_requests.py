@@ -341,6 +341,36 @@ def forecasts() -> Iterator[Made]:
         yield made("argument", status, what, [ADD_ANNA, asking(f"GET /drivers/{number}/ahead/{end}", OFFICE)])
 
 
+def of_all_drivers() -> Iterator[Made]:
+    """How all drivers stand, and the forecast for all: the office alone asks for them."""
+    for path in ("/standing/2024-03", "/forecast/2024-03-05/12:00"):
+        asked = asking(f"GET {path}", OFFICE)
+        yield made("done", 200, f"'{path}' is asked for of two drivers", [*WITH_DAY, ADD_BERT, asked])
+        yield made("done", 200, f"'{path}' is asked for where there is no driver", [asked])
+        yield made("path", 403, f"a driver may not GET '{path}'", [ADD_ANNA, asking(f"GET {path}", DRIVER)])
+        yield made("path", 404, f"a driver has no path '/me{path}'", [ADD_ANNA, asking(f"GET /me{path}", DRIVER)])
+        yield made("path", 404, f"the path '/drivers/17{path}' isn't one", [ADD_ANNA, asking(f"GET /drivers/17{path}", OFFICE)])
+        yield made("path", 405, f"the path '{path}' hasn't the method POST", [ADD_ANNA, asking(f"POST {path}", OFFICE)])
+    for path in ("/standing", "/standing/", "/standing/2024-03/17", "/forecast", "/forecast/2024-03-05", "/forecast/2024-03-05/12:00/"):
+        yield made("path", 404, f"the path '{path}' isn't one", [ADD_ANNA, asking(f"GET {path}", OFFICE)])
+    for end, status, what in (
+        ("standing/2024-3", 400, "a month of all drivers of another shape, of how they stand"),
+        ("standing/2024-13", 400, "month 13 of how all drivers stand"), ("standing/1999-12", 400, "how all drivers stand in 1999"),
+        ("standing/2000-01", 200, "how all drivers stand in the first month, which has none before it"),
+        ("forecast/2024-02-30/9:00", 400, "a time of another shape, beside 30 February, of all drivers"),
+        ("forecast/2024-02-30/12:00", 400, "30 February, of all drivers"),
+        ("forecast/2024-03-05/24:00", 400, "hour 24, of all drivers"), ("forecast/2024-03-05/12:60", 400, "minute 60, of all drivers"),
+        ("forecast/2024-03-05/12%3A00", 400, "a colon in a percent sign, of all drivers"),
+        ("forecast/2100-01-01/00:00", 400, "a minute of 2100, of all drivers"),
+    ):
+        yield made("argument", status, what, [ADD_ANNA, asking(f"GET /{end}", OFFICE)])
+    for time, what in (("12:59", "the last forecast for all drivers that doesn't go past 2099"),
+                       ("13:00", "a forecast for all drivers that goes past 2099")):
+        at_end = [asking("POST /drivers/17/base/2099-10-26", OFFICE), asking(f"GET /forecast/2099-10-29/{time}", OFFICE)]
+        yield made("argument", 200, what, [ADD_ANNA, *at_end])
+
+
 def requests() -> list[Made]:
     """All cases of requests."""
-    return [one for maker in (heads, limits, keys, paths, bodies, arguments, refusals, done, single_bytes, forecasts) for one in maker()]
+    makers = (heads, limits, keys, paths, bodies, arguments, refusals, done, single_bytes, forecasts, of_all_drivers)
+    return [one for maker in makers for one in maker()]

@@ -14,6 +14,7 @@ STORE_FAILED = ("S12 store failed\n", 3)
 GIVEN_UP = [("M1 no memory\n", 3), STORE_FAILED, ("", 2)]
 
 ANNA: Command = (["register"], f"driver,holder,key,base,name\n17,{HOLDER},anna-key-1,2024-03-04,Anna Berg\n".encode())
+CARL: Command = (["register"], f"driver,holder,key,base,name\n9,{HOLDER[:-1]}9,carl-key-1,2024-03-04,Carl Ek\n".encode())
 HOURS = b"start,past,activity\n2024-03-04 07:00,2024-03-04 08:00,rest\n2024-03-04 16:30,2024-03-04 18:00,drive\n"
 ENTER: Command = (["enter", "17"], HOURS)
 SIGNED_ROWS = b"2024-03-04 07:00,2024-03-04 08:00,rest,Eva Lund,\n2024-03-04 16:30,2024-03-04 18:00,drive,Zo\xc3\xab,by the printout\n"

@@ -33,6 +33,8 @@ READINGS = [
     "check",
     "stretches 17",
     "debts 17",
+    "forecast 2024-03-05 12:00",
+    "standing 2024-03",
     "overview 2024-03",
     "incidents 2024-03",
     "form 17",

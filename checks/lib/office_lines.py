@@ -10,7 +10,7 @@ LINES = 30
 FIRST_DAY = 10_957  # 2000-01-01, the first day of a month that is read
 LAST_MINUTE = 68_374_079  # 2099-12-31 23:59
 READINGS = ["spans", "gaps", "sheet", "chart", "why", "breaches", "owed", "owed", "entries", "files", "file", "drivers", "check", "migrate"]
-READINGS += ["stretches", "stretches", "debts", "overview", "incidents", "form", "ahead"]
+READINGS += ["stretches", "stretches", "debts", "forecast", "standing", "overview", "incidents", "form", "ahead"]
 BAD_DRIVERS = ["017", "0", "1000000", "", "+17", "1e3", "\u0661\u0667"]
 BAD_NUMBERS = ["0", "01", "1000001", "x", "99999999999999999999"]
 BAD_MONTHS = ["2024-13", "2024-00", "2024-3", "1999-12", "2100-01", "0000-01", "2024-03-04", "2024/03"]
@@ -34,6 +34,8 @@ BAD: dict[str, list[list[str]]] = {
     "drivers": [BAD_DRIVERS],
     "check": [],
     "migrate": [],
+    "forecast": [BAD_DATES, BAD_TIMES],
+    "standing": [BAD_MONTHS],
     "overview": [BAD_MONTHS],
     "incidents": [BAD_MONTHS],
 }
@@ -90,6 +92,14 @@ class Lines(random_commands.Commands):
         date, time = slow_reader.minute_text(min(minute, LAST_MINUTE)).split(" ")
         return [self.one_of([date], BAD_DATES), self.one_of([time], BAD_TIMES)]
 
+    def minute_of_all(self) -> list[str]:
+        """A date and a time for all drivers: near the first end of what they hold, or so late that none has a forecast, or arguments
+        that are none. A slow forecast from years after a horizon on takes long."""
+        ends = [slow_office.end_of_held(driver.held(), 1440 * driver.base) for driver in self.drivers.values()]
+        minute = min(ends, default=self.base) + self.chance.choice([-1, 0, 1, 600, 1440, LAST_MINUTE])
+        date, time = slow_reader.minute_text(min(minute, LAST_MINUTE)).split(" ")
+        return [self.one_of([date], BAD_DATES), self.one_of([time], BAD_TIMES)]
+
     def number(self) -> int:
         """A driver's number: that of the hard weeks, one with downloads, if there is any, or any other."""
         with_downloads = [number for number, driver in self.drivers.items() if driver.downloads]
@@ -103,8 +113,10 @@ class Lines(random_commands.Commands):
             return [word, str(number)], b""
         if word in ("drivers", "check", "migrate"):
             return [word], b""
-        if word in ("overview", "incidents"):
+        if word in ("standing", "overview", "incidents"):
             return [word, self.month(driver)], b""
+        if word == "forecast":
+            return [word, *self.minute_of_all()], b""
         if word in ("spans", "gaps", "sheet", "chart", "why"):
             return [word, str(number), self.month(driver)], b""
         if word == "ahead":

@@ -1,6 +1,10 @@
 """Worked rows of the office: in an archive that has Anna, what each command prints for an input, and its status."""
 from collections import namedtuple
-from collections.abc import Sequence
+from collections.abc import Iterable, Sequence
+
+from inputs.random_commands import hours_csv
+from lib import rules
+from slow.slow_rules import Span
 
 HOLDER = "0d4431323334353637383930313233"
 DRIVER_HEAD = "driver,holder,key,base,name\n"
@@ -78,6 +82,23 @@ def hours(*rows: str, head: bytes = HOURS_HEAD) -> bytes:
     return head + "".join(f"{row}\n" for row in rows).encode()
 
 
+def example(name: str) -> bytes:
+    """The hours of a worked example of the rules."""
+    row = next(row for row in rules.ROWS if row.name == name)
+    return hours_csv(rules.joined(row.busy, rules.BASE, row.horizon))
+
+
+def later(weeks: int, busy: Iterable[Span]) -> list[Span]:
+    """The same a number of weeks later."""
+    return [(start + 10_080 * weeks, past + 10_080 * weeks, activity) for start, past, activity in busy]
+
+
+def rested(busy: Iterable[Span], weeks: int = 0) -> bytes:
+    """Hours with rest between, from 4 March 2024 or a number of weeks later on."""
+    spans = later(weeks, busy)
+    return hours_csv(rules.joined(spans, rules.BASE + 10_080 * weeks, max(past for _, past, _ in spans)))
+
+
 def bert(key: str, holder: str = HOLDER, base: str = "2024-03-05") -> bytes:
     """The text of CSV with another driver."""
     return f"driver,holder,key,base,name\n18,{holder},{key},{base},Bert\n".encode()
@@ -148,6 +169,37 @@ NOTHING_AHEAD = (
     "B1 Art 7 until 2024-03-09 12:30 left 4:30\nB2 Art 8(2) until 2024-03-09 23:00 left 15:00\n"
     "B4 Art 6(1) until 2024-03-09 18:00 left 10:00\nB8 Art 8(6) until 2024-03-15 08:00 left 144:00\n"
     "B9 Art 8(6) until 2024-03-17 23:59 left 207:59\n"
+)
+
+STANDING_HEAD = "driver,name,files,held,horizon,cause,gaps,unknown,first,last_month,breaches,debts,owes,by\n"
+FORECAST_HEAD = "driver,name,from,held,start,B1,B2,B3,B4,B5,B6,B7,B8,B9,reduced,extended,before,week\n"
+CARL = f"{DRIVER_HEAD}9,{HOLDER[:-1]}9,carl-key-1,2024-03-04,Carl Ek\n".encode()
+REST_OF_DAY = HOURS_HEAD + b"2024-03-04 17:00,2024-03-05 00:00,rest\n"
+
+# How Anna, Bert and Carl stand who have nothing, and Anna with a day: a gap of seven hours, and a breach in March.
+STANDING_ANNA = "17,Anna Berg,0,,2024-03-04 00:00,unknown,0,0,,0,0,0,0,\n"
+STANDING_BERT = "18,Bert,0,,2024-02-05 00:00,unknown,0,0,,0,0,0,0,\n"
+STANDING_CARL = "9,Carl Ek,0,,2024-03-04 00:00,unknown,0,0,,0,0,0,0,\n"
+STANDING_DAY = "17,Anna Berg,1,2024-03-05 08:00,2024-03-04 17:00,unknown,1,420,2024-03-04 17:00,{},{},0,0,\n"
+
+# Arguments of `forecast` that are no minute, and those of a day or a time that isn't there.
+NO_MINUTES = ["2024-3-5 12:00", "2024-03-05 9:00", "2024-02-30 9:00", "2024-03-05 12.00", "2024-03-05 2024-03-05", "12:00 2024-03-05"]
+NO_MINUTES += ["17 12:00"]
+NOT_THERE = ["2024-02-30 12:00", "2024-03-05 24:00", "2024-03-05 12:60", "2100-02-30 12:00"]
+
+# Two days with breaks of 45 minutes, of 541 minutes of driving and 15 hours each, a day of 15 hours of work, and reduced rests after them.
+THREE_LONG_DAYS = [
+    *rules.drive([4, 5], "06:00-10:30", "11:15-15:45", "16:30-16:31"), *rules.work([4, 5], "16:31-21:00"), *rules.work([6], "06:00-21:00"),
+]
+NIGHT = HOURS_HEAD + b"2024-03-06 21:00,2024-03-07 06:00,rest\n"
+
+TO_LAST_MONTH = 3_954  # weeks from 4 March 2024 to 14 December 2099
+
+# A breach on Monday, 5 February, and two on 4 March, whose minutes before aren't held.
+TWO_MONTHS = hours(
+    "2024-02-05 00:00,2024-02-05 06:00,rest", "2024-02-05 06:00,2024-02-05 10:31,drive",
+    "2024-03-04 00:00,2024-03-04 06:00,rest", "2024-03-04 06:00,2024-03-04 10:32,drive",
+    "2024-03-04 10:32,2024-03-04 11:17,rest", "2024-03-04 11:17,2024-03-04 15:48,drive",
 )
 
 ROWS = {
@@ -376,6 +428,172 @@ ROWS = {
             "B7 Art 6(3) until 2024-03-14 18:00 left 90:00\nB8 Art 8(6) until 2024-03-17 00:00 left 144:00\n"
             "B9 Art 8(6) until 2024-03-18 00:00 left 168:00\n",
         ),
+    ],
+    "how all drivers stand": [
+        done("standing 2024-03", STANDING_HEAD + STANDING_ANNA),
+        ADDED,
+        done("standing 2024-02", STANDING_HEAD + STANDING_DAY.format(0, 0)),
+        done("standing 2024-03", STANDING_HEAD + STANDING_DAY.format(0, 1)),
+        done("standing 2024-04", STANDING_HEAD + STANDING_DAY.format(1, 0)),
+        done("standing 2024-05", STANDING_HEAD + STANDING_DAY.format(0, 0)),
+        done("standing 2000-01", STANDING_HEAD + STANDING_DAY.format(0, 0)),
+        done("standing 2099-12", STANDING_HEAD + STANDING_DAY.format(0, 0)),
+        done("register", "registered 18\n", BERT),
+        done("register", "registered 9\n", CARL),
+        done("standing 2024-03", STANDING_HEAD + STANDING_CARL + STANDING_DAY.format(0, 1) + STANDING_BERT),
+        done("enter 17", "entered 1 to 1\n", FREE_DAYS),
+        done(
+            "standing 2024-03",
+            f"{STANDING_HEAD}{STANDING_CARL}"
+            f"17,Anna Berg,1,2024-03-11 00:00,2024-03-04 17:00,unknown,2,5700,2024-03-04 17:00,0,1,0,0,\n{STANDING_BERT}",
+        ),
+        done("base 17 2024-03-11", "base 2024-03-11\n"),
+        done("standing 2024-03", f"{STANDING_HEAD}{STANDING_CARL}17,Anna Berg,1,,2024-03-11 00:00,unknown,0,0,,0,0,0,0,\n{STANDING_BERT}"),
+        done("base 17 2024-02-26", "base 2024-02-26\n"),
+        done(
+            "standing 2024-04",
+            f"{STANDING_HEAD}{STANDING_CARL}"
+            f"17,Anna Berg,1,2024-03-11 00:00,2024-03-04 17:00,unknown,3,15780,2024-02-26 00:00,1,0,0,0,\n{STANDING_BERT}",
+        ),
+        refused("standing 2024-3", "Z1 not of the shape"),
+        refused("standing 2024-03-05", "Z1 not of the shape"),
+        refused("standing 17", "Z1 not of the shape"),
+        refused("standing 2024-00", "Z2 no such date"),
+        refused("standing 2100-13", "Z2 no such date"),
+        refused("standing 1999-12", "Z3 out of range"),
+        refused("standing 2100-01", "Z3 out of range"),
+    ],
+    "how a second driver stands": [
+        done("import both", "added driver 17 number 1\n", CREW_DAY),
+        done("standing 2024-03", f"{STANDING_HEAD}17,Anna Berg,1,2024-03-05 08:00,2024-03-04 08:30,crew,1,420,2024-03-04 17:00,0,0,0,0,\n"),
+        done("forecast 2024-03-05 09:00", f"{FORECAST_HEAD}17,Anna Berg,2024-03-04,2024-03-05 08:00{14 * ','}\n"),
+    ],
+    "breaches of two months": [
+        done("base 17 2024-02-05", "base 2024-02-05\n"),
+        done("enter 17", "entered 1 to 6\n", TWO_MONTHS),
+        *[
+            done(
+                f"standing {month}",
+                f"{STANDING_HEAD}17,Anna Berg,0,2024-03-04 15:48,2024-03-04 15:48,unknown,1,39689,2024-02-05 10:31,{counts},0,0,\n",
+            )
+            for month, counts in [("2024-01", "0,0"), ("2024-02", "0,1"), ("2024-03", "1,2"), ("2024-04", "2,0"), ("2024-05", "0,0")]
+        ],
+        done("base 17 2023-12-25", "base 2023-12-25\n"),
+        done("withdraw 17 1", "withdrawn 1\n"),
+        done("enter 17", "entered 7 to 8\n", hours("2023-12-25 00:00,2023-12-25 06:00,rest", "2023-12-25 06:00,2023-12-25 10:31,drive")),
+        *[
+            done(
+                f"standing {month}",
+                f"{STANDING_HEAD}17,Anna Berg,0,2024-03-04 15:48,2024-03-04 15:48,unknown,2,99898,2023-12-25 10:31,{counts},0,0,\n",
+            )
+            for month, counts in [("2023-12", "0,1"), ("2024-01", "1,0"), ("2024-02", "0,0"), ("2024-03", "0,2")]
+        ],
+    ],
+    "the first months": [
+        done("base 17 2000-01-03", "base 2000-01-03\n"),
+        done("enter 17", "entered 1 to 2\n", hours("2000-01-03 00:00,2000-01-03 06:00,rest", "2000-01-03 06:00,2000-01-03 10:31,drive")),
+        *[
+            done(f"standing {month}", f"{STANDING_HEAD}17,Anna Berg,0,2000-01-03 10:31,2000-01-03 10:31,unknown,0,0,,{counts},0,0,\n")
+            for month, counts in [("2000-01", "0,1"), ("2000-02", "1,0")]
+        ],
+    ],
+    "what all drivers owe": [
+        done("enter 17", "entered 1 to 52\n", example("a debt is due in a minute")),
+        *[
+            done(
+                f"standing {month}",
+                f"{STANDING_HEAD}17,Anna Berg,0,2024-03-31 23:59,2024-03-31 23:59,unknown,0,0,,0,0,1,1260,2024-04-01 00:00\n",
+            )
+            for month in ["2024-03", "2024-04"]
+        ],
+        done("enter 17", "entered 53 to 53\n", hours("2024-03-31 23:59,2024-04-01 00:00,work")),
+        *[
+            done(f"standing {month}", f"{STANDING_HEAD}17,Anna Berg,0,2024-04-01 00:00,2024-04-01 00:00,unknown,0,0,,{counts},0,0,\n")
+            for month, counts in [("2024-03", "0,0"), ("2024-04", "0,1"), ("2024-05", "1,0")]
+        ],
+    ],
+    "two weeks that owe": [
+        done("enter 17", "entered 1 to 30\n", rested([*rules.SHORT_WEEK, *later(1, rules.SHORT_WEEK), *rules.work([18], "06:00-07:00")])),
+        done(
+            "standing 2024-03",
+            f"{STANDING_HEAD}17,Anna Berg,0,2024-03-18 07:00,2024-03-18 07:00,unknown,0,0,,0,0,2,2520,2024-04-01 00:00\n",
+        ),
+        done("enter 17", "entered 31 to 31\n", hours("2024-03-25 00:00,2024-03-25 06:00,rest")),
+        done(
+            "standing 2024-03",
+            f"{STANDING_HEAD}17,Anna Berg,0,2024-03-25 06:00,2024-03-25 06:00,unknown,1,9660,2024-03-18 07:00,0,0,0,0,\n",
+        ),
+    ],
+    "what is owed after 2099": [
+        done("base 17 2099-12-14", "base 2099-12-14\n"),
+        done("enter 17", "entered 1 to 16\n", rested([*rules.SHORT_WEEK, *rules.work([11], "06:00-07:00")], TO_LAST_MONTH)),
+        done(
+            "standing 2099-12",
+            f"{STANDING_HEAD}17,Anna Berg,0,2099-12-21 07:00,2099-12-21 07:00,unknown,0,0,,0,0,1,1260,2100-01-11 00:00\n",
+        ),
+        done("forecast 2099-12-31 23:59", f"{FORECAST_HEAD}17,Anna Berg,2099-12-14,2099-12-21 07:00{14 * ','}\n"),
+    ],
+    "the forecast for all drivers": [
+        done(
+            "forecast 2024-03-09 08:00",
+            f"{FORECAST_HEAD}17,Anna Berg,2024-03-04,,2024-03-09 08:00,2024-03-09 12:30,2024-03-09 23:00,,2024-03-09 18:00,,,,"
+            "2024-03-15 08:00,2024-03-17 23:59,0,0,0,0\n",
+        ),
+        ADDED,
+        *[
+            done(f"forecast {minute}", f"{FORECAST_HEAD}17,Anna Berg,2024-03-04,2024-03-05 08:00{14 * ','}\n")
+            for minute in ["2000-01-03 00:00", "2024-03-05 09:00", "2099-12-31 23:59"]
+        ],
+        done("enter 17", "entered 1 to 1\n", REST_OF_DAY),
+        done("register", "registered 18\n", BERT),
+        done("register", "registered 9\n", CARL),
+        done(
+            "forecast 2024-03-05 09:00",
+            f"{FORECAST_HEAD}9,Carl Ek,2024-03-04,,2024-03-05 09:00,2024-03-05 13:30,2024-03-06 00:00,,2024-03-05 19:00,,2024-03-07 17:00,"
+            "2024-03-09 03:00,2024-03-11 09:00,2024-03-17 23:59,0,0,0,0\n"
+            "17,Anna Berg,2024-03-04,2024-03-05 08:00,2024-03-05 09:00,2024-03-05 13:30,2024-03-06 00:00,,2024-03-05 19:00,,"
+            "2024-03-07 08:30,2024-03-08 18:30,2024-03-10 08:00,2024-03-17 23:59,0,0,0,510\n"
+            "18,Bert,2024-02-05,,2024-03-05 09:00,2024-03-05 13:30,2024-03-06 00:00,,2024-03-05 19:00,,2024-03-07 17:00,"
+            "2024-03-09 03:00,2024-03-11 09:00,2024-03-17 23:59,0,0,0,0\n",
+        ),
+        done(
+            "forecast 2099-10-29 13:00",
+            f"{FORECAST_HEAD}9,Carl Ek,2024-03-04,{14 * ','}\n17,Anna Berg,2024-03-04,2024-03-05 08:00{14 * ','}\n"
+            f"18,Bert,2024-02-05,{14 * ','}\n",
+        ),
+        *[refused(f"forecast {minute}", "Z1 not of the shape") for minute in NO_MINUTES],
+        *[refused(f"forecast {minute}", "Z2 no such date") for minute in NOT_THERE],
+        *[refused(f"forecast {minute}", "Z3 out of range") for minute in ["2000-01-02 23:59", "2100-01-01 00:00"]],
+    ],
+    "all limits": [
+        done("enter 17", "entered 1 to 16\n", rested(THREE_LONG_DAYS)),
+        done("enter 17", "entered 17 to 17\n", NIGHT),
+        done(
+            "forecast 2024-03-07 06:00",
+            f"{FORECAST_HEAD}17,Anna Berg,2024-03-04,2024-03-07 06:00,2024-03-07 06:00,2024-03-07 10:30,2024-03-07 21:00,2024-03-07 19:00,"
+            "2024-03-07 16:00,2024-03-07 15:00,2024-03-08 19:58,2024-03-10 05:58,2024-03-10 06:00,2024-03-17 23:59,3,2,0,1082\n",
+        ),
+        done(
+            "forecast 2024-03-11 06:00",
+            f"{FORECAST_HEAD}17,Anna Berg,2024-03-04,2024-03-07 06:00,2024-03-11 06:00,2024-03-11 10:30,2024-03-11 21:00,,"
+            "2024-03-11 16:00,,2024-03-13 14:00,2024-03-14 05:58,2024-03-17 06:00,2024-03-24 23:59,0,0,1082,0\n",
+        ),
+    ],
+    "the last forecasts": [
+        done("base 17 2024-03-11", "base 2024-03-11\n"),
+        done(
+            "forecast 2024-03-05 09:00",
+            f"{FORECAST_HEAD}17,Anna Berg,2024-03-11,,2024-03-11 00:00,2024-03-11 04:30,2024-03-11 15:00,,2024-03-11 10:00,,"
+            "2024-03-13 08:00,2024-03-14 18:00,2024-03-17 00:00,2024-03-18 00:00,0,0,0,0\n",
+        ),
+        done("base 17 2099-10-26", "base 2099-10-26\n"),
+        done(
+            "forecast 2099-10-29 12:59",
+            f"{FORECAST_HEAD}17,Anna Berg,2099-10-26,,2099-10-29 12:59,2099-10-29 17:29,2099-10-30 03:59,,2099-10-29 22:59,,"
+            "2099-10-31 20:59,,2099-11-04 12:59,2099-11-08 23:59,0,0,0,0\n",
+        ),
+        done("forecast 2099-10-29 13:00", f"{FORECAST_HEAD}17,Anna Berg,2099-10-26,{14 * ','}\n"),
+        done("standing 2099-10", f"{STANDING_HEAD}17,Anna Berg,0,,2099-10-26 00:00,unknown,0,0,,0,0,0,0,\n"),
     ],
     "two Mondays": [
         done("stretches 17", f"FROM 2024-03-04\n{UNEXAMINED}"),

@@ -8,11 +8,11 @@ FOLDER = os.path.join(files.CHECKS, "readings")
 
 
 def words_of(name: str) -> list[str]:
-    """The arguments of a reading, by the name of the file that has what it prints: `chart-17-2024-03`, `ahead-17-2024-03-05-12:00`."""
+    """The arguments of a reading, by the name of the file that has what it prints: `chart-17-2024-03`, `ahead-17-2024-03-05-12:00`,
+    `forecast-2024-03-05-12:00`."""
     word, _, rest = name.partition("-")
-    if word == "ahead":
-        number, _, minute = rest.partition("-")
-        return [word, number, minute[:10], minute[11:]]
+    if word in ("ahead", "forecast"):
+        return [word, *filter(None, [rest[:-17]]), rest[-16:-6], rest[-5:]]
     return [word, *rest.split("-", 1 if word in ("chart", "why") else 0)]
 
 

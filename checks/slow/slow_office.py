@@ -22,6 +22,8 @@ Runs = tuple[tuple[int, int, slow_reader.Mark], ...]
 INPUT_LIMIT = 262_144
 LONGEST = 527_040
 OVERVIEW_HEAD = "driver,name,rest,available,work,drive,crew,none,examined,B1,B2,B3,B4,B5,B6,B7,B8,B9,B10\n"
+STANDING_HEAD = "driver,name,files,held,horizon,cause,gaps,unknown,first,last_month,breaches,debts,owes,by\n"
+FORECAST_HEAD = "driver,name,from,held,start,B1,B2,B3,B4,B5,B6,B7,B8,B9,reduced,extended,before,week\n"
 INCIDENT_HEAD = "driver,name,kind,article,moment,since,amount\n"
 LAST_DRIVER = 999_999
 LAST_NUMBER = 1_000_000
@@ -268,6 +270,12 @@ def end_of_held(held: Marks, base: int) -> int:
     return max((minute + 1 for minute in held if minute >= base), default=base)
 
 
+def lacking_in(held: Marks, base: int) -> list[tuple[int, int]]:
+    """The maximal ranges that aren't held from a minute to the end of what is held. They may have years: their minutes aren't listed."""
+    minutes = [base - 1, *sorted(minute for minute in held if minute >= base)]
+    return [(before + 1, minute) for before, minute in zip(minutes, minutes[1:]) if before + 1 < minute]
+
+
 def stretches_of(held: Marks, base: int) -> list[Stretch]:
     """The stretches of what is held, from a day on."""
     runs = tuple(tuple(run) for run in slow_reader.runs(held.items()))
@@ -330,18 +338,92 @@ def outlook_text(found: slow_ahead.Outlook) -> str:
     ])
 
 
+@functools.lru_cache(maxsize=1_000)
+def outlook_of_spans(spans: tuple[slow_rules.Span, ...], monday: int, horizon: int, minute: int) -> slow_ahead.Outlook | None:
+    """The forecast of what is examined from a Monday to a horizon, from a minute on; nothing where it goes past the last day."""
+    return slow_ahead.outlook(spans, monday, horizon, minute)
+
+
+def outlook_of(held: Marks, last: Stretch, minute: int) -> slow_ahead.Outlook | None:
+    """The same of the last stretch of what is held."""
+    marks = {minute: slow_rules.Mark(activity, False) for minute, (activity, _) in held.items()}
+    spans = slow_rules.examined_spans(marks, last.monday, last.horizon)
+    return outlook_of_spans(tuple(spans), last.monday, last.horizon, minute)
+
+
 def ahead_text(driver: slow_archive.Driver, minute: int) -> str:
     """Until when a driver can drive on: Z3. If something is held after the horizon of the last stretch, this is how it ends."""
     held = driver.held()
     last = stretches_of(held, driver.base)[-1]
     if last.unseen is not None:
         return last.text(horizon_text(last.horizon, last.cause))
-    marks = {minute: slow_rules.Mark(activity, False) for minute, (activity, _) in held.items()}
-    spans = slow_rules.examined_spans(marks, last.monday, last.horizon)
-    found = slow_ahead.outlook(spans, last.monday, last.horizon, minute)
+    found = outlook_of(held, last, minute)
     if found is None:
         raise slow_reader.Fault("Z3 out of range")
     return last.text(horizon_text(last.horizon, last.cause)) + outlook_text(found)
+
+
+def minute_cell(minute: int | None) -> str:
+    """A minute, or nothing."""
+    return "" if minute is None else slow_reader.minute_text(minute)
+
+
+def held_cell(held: Marks, base: int) -> str:
+    """The end of what is held from a minute on, if anything is."""
+    end = end_of_held(held, base)
+    return minute_cell(end if end > base else None)
+
+
+def forecast_row(driver: slow_archive.Driver, minute: int) -> str:
+    """Until when a driver can drive on by each rule, and what is used."""
+    held = driver.held()
+    last = stretches_of(held, driver.base)[-1]
+    found = outlook_of(held, last, minute) if last.unseen is None else None
+    cells = [str(driver.number), driver.name.decode(), slow_reader.minute_text(last.monday)[:10], held_cell(held, 1440 * driver.base)]
+    if found is None:
+        cells += [""] * 14
+    else:
+        cells += [slow_reader.minute_text(found.start), *(minute_cell(found.limits.get(kind)) for kind in slow_ahead.KINDS)]
+        cells += [str(number) for number in [found.reduced, found.extended, *(minutes for _, minutes in found.driven)]]
+    return ",".join(cells) + "\n"
+
+
+def month_before(month: Month) -> Month | None:
+    """The month before a month, if it is one that can be asked for."""
+    year, number = month
+    before = (year - 1, 12) if number == 1 else (year, number - 1)
+    return before if before >= (2000, 1) else None
+
+
+def breach_count(stretches: Iterable[Stretch], month: Month | None) -> int:
+    """How many breaches have their moment in a month."""
+    return len(breaches_in(stretches, month_minutes(month))) if month else 0
+
+
+def standing_row(driver: slow_archive.Driver, month: Month) -> str:
+    """What is held of a driver, how far it is examined, what lacks in between, the breaches of two months, and the open debts."""
+    held, base = driver.held(), 1440 * driver.base
+    stretches = stretches_of(held, driver.base)
+    last = stretches[-1]
+    gaps = lacking_in(held, base)
+    debts = [(amount, deadline) for _, amount, deadline, payer in last.debts if payer is None and deadline > last.horizon]
+    cells = [
+        driver.number,
+        driver.name.decode(),
+        len(driver.downloads),
+        held_cell(held, base),
+        slow_reader.minute_text(last.horizon),
+        last.cause.lower(),
+        len(gaps),
+        sum(past - start for start, past in gaps),
+        minute_cell(min((start for start, _ in gaps), default=None)),
+        breach_count(stretches, month_before(month)),
+        breach_count(stretches, month),
+        len(debts),
+        sum(amount for amount, _ in debts),
+        minute_cell(min((deadline for _, deadline in debts), default=None)),
+    ]
+    return ",".join(map(str, cells)) + "\n"
 
 
 def overview_row(driver: slow_archive.Driver, minutes: range) -> str:
@@ -458,8 +540,7 @@ def chart_text(driver: slow_archive.Driver, month: Month) -> str:
 
 def form_text(held: Marks, base: int) -> str:
     """What isn't held from a minute to the end of what is held, in rows of 366 days at the most."""
-    runs = slow_reader.runs((minute, "") for minute in range(base, end_of_held(held, base)) if minute not in held)
-    rows = [(start, min(start + LONGEST, past)) for first, past, _ in runs for start in range(first, past, LONGEST)]
+    rows = [(start, min(start + LONGEST, past)) for first, past in lacking_in(held, base) for start in range(first, past, LONGEST)]
     lines = [f"{slow_reader.minute_text(start)},{slow_reader.minute_text(past)},,,\n" for start, past in rows]
     return "".join(["start,past,activity,author,note\n", *lines])
 
@@ -533,6 +614,8 @@ class Office:
             "drivers": lambda: self.drivers(*others),
             "stretches": lambda: self.stretches(*others),
             "debts": lambda: self.debts(*others),
+            "forecast": lambda: self.forecast(*others),
+            "standing": lambda: self.standing(*others),
             "overview": lambda: self.overview(*others),
             "incidents": lambda: self.incidents(*others),
             "form": lambda: self.form(*others),
@@ -688,6 +771,16 @@ class Office:
         """What a driver is owed, by stretches."""
         driver = self.driver(number)
         return debts_text(stretches_of(driver.held(), driver.base))
+
+    def forecast(self, date: str, time: str) -> str:
+        """A row of forecasts for each driver: Z1, Z2, Z3."""
+        minute = minute_of(f"{date} {time}")
+        return FORECAST_HEAD + "".join(forecast_row(driver, minute) for _, driver in sorted(self.archive.drivers.items()))
+
+    def standing(self, month: str) -> str:
+        """A row for each driver: Z1, Z2, Z3."""
+        when = month_of(month)
+        return STANDING_HEAD + "".join(standing_row(driver, when) for _, driver in sorted(self.archive.drivers.items()))
 
     def overview(self, month: str) -> str:
         """A row of a month for each driver: Z1, Z2, Z3."""

@@ -20,6 +20,8 @@ TYPES = {
     "file": "application/octet-stream",
     "chart": "image/svg+xml",
     "form": "text/csv; charset=utf-8",
+    "forecast": "text/csv; charset=utf-8",
+    "standing": "text/csv; charset=utf-8",
     "overview": "text/csv; charset=utf-8",
     "incidents": "text/csv; charset=utf-8",
 }
@@ -81,6 +83,8 @@ OFFICE_ROUTES = {
     "/drivers/{n}/why/{month}": {"GET": "why"},
     "/drivers/{n}/chart/{month}": {"GET": "chart"},
     "/drivers/{n}/ahead/{date}/{time}": {"GET": "ahead"},
+    "/forecast/{date}/{time}": {"GET": "forecast"},
+    "/standing/{month}": {"GET": "standing"},
     "/overview/{month}": {"GET": "overview"},
     "/incidents/{month}": {"GET": "incidents"},
     "/version": {"GET": "version"},
