@@ -157,6 +157,9 @@ def stretches(folder: str, script: str) -> None:
         "overview, without gaps": (full, [f"overview - {month}"]),
         "overview, with gaps": (many, [f"overview - {month}"]),
         "incidents, with gaps": (many, [f"incidents - {month}"]),
+        "standing, without gaps": (full, [f"standing - {month}"]),
+        "standing, with gaps": (many, [f"standing - {month}"]),
+        "forecast, without gaps": (full, [f"forecast - {month}-01 12:00"]),
     }
     print_works(script, works, ROUNDS_OF_ALL)
     shutil.copyfile(filled, path_of(folder, "tacho", "filled"))
