@@ -144,7 +144,7 @@ def requests_in(item: str) -> set[tuple[str, str]]:
         return set()
     method, text = found.groups()
     paths = re.findall(r"`(/[^`]*)`", text)
-    names = re.findall(r"[a-z]+", " ".join(re.findall(r"with ((?:`[a-z]+`(?:, | and )?)+)", text)).replace("and", ""))
+    names = re.findall(r"`([a-z]+)`", " ".join(re.findall(r"with ((?:`[a-z]+`(?:, | and )?)+)", text)))
     others = [re.sub(r"/[a-z]+(/[\d-]+)?$", rf"/{name}\1", path) for path in paths for name in names]
     return {(method, place_of(path)) for path in [*paths, *others]}
 
