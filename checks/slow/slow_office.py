@@ -271,7 +271,7 @@ def end_of_held(held: Marks, base: int) -> int:
 
 
 def lacking_in(held: Marks, base: int) -> list[tuple[int, int]]:
-    """The maximal ranges that aren't held from a minute to the end of what is held. They may have years: their minutes aren't listed."""
+    """The maximal ranges that aren't held from a minute to the end of what is held. They may last for years: no list has their minutes."""
     minutes = [base - 1, *sorted(minute for minute in held if minute >= base)]
     return [(before + 1, minute) for before, minute in zip(minutes, minutes[1:]) if before + 1 < minute]
 
