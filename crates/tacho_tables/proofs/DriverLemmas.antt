@@ -20,14 +20,14 @@ use Rattle.sqlite.proofs.Callers.{reads_as}
 use Rattle.tacho_tables.specs.Schema.{Layout, archive_schema}
 use Rattle.tacho_tables.specs.Schema as made
 use Rattle.tacho_tables.specs.Rows.{DriverRow, driver_row, AreNumberedRowsOf}
-use Rattle.tacho_tables.specs.Tables.{IsArchive, Turns, has_number, has_secret, has_holder, with_row_base, with_row_key, with_downloads, with_entries}
+use Rattle.tacho_tables.specs.Tables.{IsArchive, Turns, has_number, has_secret, has_holder, with_row_base, with_row_key, with_row_name, with_downloads, with_entries}
 use Rattle.tacho_tables.proofs.Answers.{simple, passes, listed, shows, eq_test, text_test, blob_test}
 use Rattle.tacho_tables.proofs.Idle.{idle}
 use Rattle.tacho_tables.proofs.Kept.{with_drivers}
 use Rattle.tacho_tables.proofs.Places.{drivers_listed}
 use Rattle.tacho_tables.proofs.Numbered.{numbered_put, numbered_shown, numbered_updated}
 use Rattle.tacho_tables.proofs.SpanLemmas.{and-true, none_given}
-use Rattle.tacho_tables.proofs.Statements.{IsStatement, IsReading, column_is, driver_values, driver_insert_text, driver_insert_is, with_base_shown, with_count_shown, base_text, base_is, with_key_shown, key_text, key_is, count_text, count_is, with_entry_count_shown, entry_count_text, entry_count_is}
+use Rattle.tacho_tables.proofs.Statements.{IsStatement, IsReading, column_is, driver_values, driver_insert_text, driver_insert_is, with_base_shown, with_count_shown, base_text, base_is, with_key_shown, key_text, key_is, with_name_shown, name_text, name_is, count_text, count_is, with_entry_count_shown, entry_count_text, entry_count_is}
 use Rattle.tacho_tables.proofs.TurnLemmas.{turns}
 use Rattle.tacho_tables.proofs.Writes.{inserted, updated, cast_null, cast_int}
 
@@ -131,6 +131,14 @@ pub sets_key : (old new : State) (driver : ℕ) (key : List ℕ) (count : ℕ) �
     → Turns old new (λ a. record a { drivers = map (with_row_key driver key) a.drivers })
 sets_key old new driver key count is h =
     changes old new driver (Text key) count is key_text with_key_shown (λ x. record x { secret = key }) key_is (λ x. refl)
+    (λ x. rw (cast_int (pos x.driver), cast_null, cast_int (pos x.base), cast_int (pos x.downloads), cast_int (pos x.entries)) refl) h
+
+-- it sets the driver's name
+pub sets_name : (old new : State) (driver : ℕ) (name : List ℕ) (count : ℕ) → IsArchive old.now
+    → Executes name_text (Int (pos driver) ∷ Text name ∷ []) old new (Ok count)
+    → Turns old new (λ a. record a { drivers = map (with_row_name driver name) a.drivers })
+sets_name old new driver name count is h =
+    changes old new driver (Text name) count is name_text with_name_shown (λ x. record x { name = name }) name_is (λ x. refl)
     (λ x. rw (cast_int (pos x.driver), cast_null, cast_int (pos x.base), cast_int (pos x.downloads), cast_int (pos x.entries)) refl) h
 
 module _ (old new : State) (driver value count : ℕ) (is : IsArchive old.now) where

@@ -226,6 +226,10 @@ base_text = codes "UPDATE drivers SET base = ?2 WHERE driver = ?1"
 abbrev pub key_text : List ℕ
 key_text = codes "UPDATE drivers SET secret = ?2 WHERE driver = ?1"
 
+-- the SQL that sets a driver's name
+abbrev pub name_text : List ℕ
+name_text = codes "UPDATE drivers SET name = ?2 WHERE driver = ?1"
+
 -- the SQL that sets how many numbers were given out to a driver's downloads
 abbrev pub count_text : List ℕ
 count_text = codes "UPDATE drivers SET downloads = ?2 WHERE driver = ?1"
@@ -245,6 +249,10 @@ with_base_shown = col 1 0 ∷ col 1 0 ∷ lit Null ∷ col 1 2 ∷ col 1 3 ∷ c
 -- the row of a driver with key ?2, after its old number
 abbrev pub with_key_shown : List Term
 with_key_shown = col 1 0 ∷ col 1 0 ∷ lit Null ∷ col 1 2 ∷ col 0 1 ∷ col 1 4 ∷ col 1 5 ∷ col 1 6 ∷ col 1 7 ∷ []
+
+-- the row of a driver with name ?2, after its old number
+abbrev pub with_name_shown : List Term
+with_name_shown = col 1 0 ∷ col 1 0 ∷ lit Null ∷ col 1 2 ∷ col 1 3 ∷ col 1 4 ∷ col 0 1 ∷ col 1 6 ∷ col 1 7 ∷ []
 
 -- the row of a driver with count ?2, after its old number
 abbrev pub with_count_shown : List Term
@@ -307,6 +315,13 @@ pub key_is : (layout : Layout)
 unfolding understood everything
 key_is Made = record { meant = refl; plain = (refl, refl) }
 key_is Carried = record { meant = refl; plain = (refl, refl) }
+
+-- a change of the name
+pub name_is : (layout : Layout)
+    → IsStatement (archive_schema layout) name_text (Update 1 (record { lets = []; body = simple 1 (column_is 0) with_name_shown [] }))
+unfolding understood everything
+name_is Made = record { meant = refl; plain = (refl, refl) }
+name_is Carried = record { meant = refl; plain = (refl, refl) }
 
 -- a change of the count
 pub count_is : (layout : Layout)

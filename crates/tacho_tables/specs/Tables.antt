@@ -203,12 +203,15 @@ has_secret secret r = bytes_eq r.secret secret
 abbrev pub has_holder : List ℕ → DriverRow → Bool
 has_holder holder r = bytes_eq r.holder holder
 
--- the driver with this number gets another base, another key, another count of downloads, or another count of entries
+-- the driver with this number gets another base, another key, another name, another count of downloads, or another count of entries
 abbrev pub with_row_base : ℕ → ℕ → DriverRow → DriverRow
 with_row_base driver base r = if has_number driver r then record r { base = base } else r
 
 abbrev pub with_row_key : ℕ → List ℕ → DriverRow → DriverRow
 with_row_key driver key r = if has_number driver r then record r { secret = key } else r
+
+abbrev pub with_row_name : ℕ → List ℕ → DriverRow → DriverRow
+with_row_name driver name r = if has_number driver r then record r { name = name } else r
 
 abbrev pub with_downloads : ℕ → ℕ → DriverRow → DriverRow
 with_downloads driver count r = if has_number driver r then record r { downloads = count } else r
