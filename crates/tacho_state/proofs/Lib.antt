@@ -3,6 +3,9 @@ pub mod NearLemmas
 pub mod OrderLemmas
 pub mod GainLemmas
 pub mod WithdrawLemmas
+pub mod PutLemmas
+pub mod RangeLemmas
+mod NameLemmas
 pub mod LeastLemmas
 pub mod StepLemmas
 pub mod MapLemmas

@@ -1,5 +1,5 @@
 -- Trusted: The archive's state: its drivers, with the card files that were accepted for each and the hours that were entered for each.
-use Rattle.std.specs.Prelude.{ℕ, ◌+◌, ◌<◌, ◌==◌, Bool, true, false, List, [], ◌∷◌, ◌++◌, Option, Some, None, bytes_eq, if◌then◌else◌}
+use Rattle.std.specs.Prelude.{ℕ, ◌+◌, ◌<◌, ◌==◌, nat_le, ◌&&◌, Bool, true, false, List, [], ◌∷◌, ◌++◌, Option, Some, None, bytes_eq, if◌then◌else◌}
 use Rattle.tacho_time.specs.declared.span.Span.{Span}
 use Rattle.tacho_time.specs.declared.span.Mark.{Mark}
 use Rattle.tacho_time.specs.declared.span.Activity.{Activity}
@@ -120,6 +120,18 @@ with_base base d = record d { base = base }
 
 abbrev pub with_key : List ℕ → Driver → Driver
 with_key key d = record d { key = key }
+
+abbrev pub with_name : List ℕ → Driver → Driver
+with_name name d = record d { name = name }
+
+-- the entries, if the first of the list has number `i`, with those withdrawn whose numbers are from `first` to `last`
+abbrev pub marked_between : ℕ → ℕ → ℕ → List Entry → List Entry
+marked_between i first last [] = []
+marked_between i first last (e ∷ es) =
+    (if nat_le first i && nat_le i last then record e { withdrawn = true } else e) ∷ marked_between (i + 1) first last es
+
+abbrev pub with_marked_between : ℕ → ℕ → Driver → Driver
+with_marked_between first last d = record d { entries = marked_between 1 first last d.entries }
 
 -- no entry is empty
 abbrev pub AreFull : List Entry → Type 0

@@ -1,6 +1,6 @@
 -- Trusted in part: What each command and each reading answers, and the state after it. A refusal leaves the state as it was. If several refusals
 -- apply, the first in the order S1 to S14 is answered; a fault of the card file (S11) comes before all others.
-use Rattle.std.specs.Prelude.{ℕ, ◌+◌, ◌%◌, ◌==◌, nat_lt, not, Bool, false, List, [], ◌∷◌, ◌++◌, length, Option, Some, None, is_some, option_map, Result, Ok, Err, bytes_eq, if◌then◌else◌}
+use Rattle.std.specs.Prelude.{ℕ, zero, suc, ◌+◌, ◌-◌, ◌%◌, ◌==◌, nat_lt, not, Bool, false, List, [], ◌∷◌, ◌++◌, length, Option, Some, None, is_some, option_map, Result, Ok, Err, bytes_eq, if◌then◌else◌}
 use Rattle.tacho_time.specs.declared.span.Span.{Span}
 use Rattle.tacho_time.specs.declared.span.Mark.{Mark}
 use Rattle.tacho_card.specs.declared.fault.CardFault.{CardFault}
@@ -9,7 +9,7 @@ use Rattle.tacho_state.specs.declared.fault.StoreFault.TheVariants.{DriverTaken,
 use Rattle.tacho_state.specs.declared.entry.Entry.{Entry as Listed}
 use Rattle.tacho_state.specs.declared.imported.Imported.{Imported}
 use Rattle.tacho_state.specs.declared.imported.Imported.TheVariants.{Added, Repeated}
-use Rattle.tacho_state.specs.State.{Download, Entry, Driver, State, given_spans, entered_spans, held_spans, held_mark, driver_of, driver_with_key, holding, put, download_from, entry_from, with_download, with_batch, with_marked, with_base, with_key}
+use Rattle.tacho_state.specs.State.{Download, Entry, Driver, State, given_spans, entered_spans, held_spans, held_mark, driver_of, driver_with_key, holding, put, download_from, entry_from, with_download, with_batch, with_marked, with_base, with_key, with_name}
 use Rattle.tacho_state.specs.Least.{least_conflict, is_within}
 
 -- an answer, and the state after it
@@ -97,7 +97,7 @@ enter_own batch d = entered_by batch d (least_conflict (held_spans d ++ entered_
 abbrev pub enter_step : ℕ → List Entry → State → Turn ℕ
 enter_step n batch s = own_turn (enter_own batch) s (driver_of n s)
 
--- ---- withdraw, rebase, rekey
+-- ---- withdraw, rebase, rekey, rename
 
 -- S7, S8
 abbrev pub withdrawn_by : ℕ → Driver → Option Entry → Result (Unit {0} × Driver) StoreFault
@@ -109,6 +109,20 @@ withdraw_own number d = withdrawn_by number d (entry_from 1 number d.entries)
 
 abbrev pub withdraw_step : ℕ → ℕ → State → Turn (Unit {0})
 withdraw_step n number s = own_turn (withdraw_own number) s (driver_of n s)
+
+-- one change of a driver, and another of the driver after it; the first refusal refuses both
+abbrev pub and_then : {A : Type 0} → Result (A × Driver) StoreFault → Own (Unit {0}) → Result (Unit {0} × Driver) StoreFault
+and_then (Err fault) next = Err fault
+and_then (Ok told) next = next told.1
+
+-- withdraws `count` entries from number `first` on, one after the other
+abbrev pub withdraw_from : ℕ → ℕ → Own (Unit {0})
+withdraw_from first zero d = Ok (tt, d)
+withdraw_from first (suc count) d = and_then (withdraw_own first d) (withdraw_from (first + 1) count)
+
+-- withdraws the entries from `first` to `last`, all of them or none
+abbrev pub withdraw_range_step : ℕ → ℕ → ℕ → State → Turn (Unit {0})
+withdraw_range_step n first last s = own_turn (withdraw_from first (last + 1 - first)) s (driver_of n s)
 
 -- S9
 abbrev pub rebase_own : ℕ → Own (Unit {0})
@@ -129,6 +143,12 @@ rekey_own key d = Ok (tt, with_key key d)
 abbrev pub rekey_step : ℕ → List ℕ → State → Turn (Unit {0})
 rekey_step n key s =
     if is_another n (driver_with_key key s) then refusal_turn KeyTaken s else own_turn (rekey_own key) s (driver_of n s)
+
+abbrev pub rename_own : List ℕ → Own (Unit {0})
+rename_own name d = Ok (tt, with_name name d)
+
+abbrev pub rename_step : ℕ → List ℕ → State → Turn (Unit {0})
+rename_step n name s = own_turn (rename_own name) s (driver_of n s)
 
 -- ---- readings
 

@@ -2,11 +2,11 @@ ghost use Rattle.std.specs.Prelude.{◌≡◌, ◌⊎◌, ◌∷◌, ◌≤◌, 
 ghost use Rattle.tacho_line.specs.Line.{mark_at};
 ghost use Rattle.tacho_card.specs.declared.fault.CardFault.{CardFault};
 ghost use Rattle.tacho_state.specs.State.{State};
-ghost use Rattle.tacho_state.specs.Steps.{Content, register_step, import_step, enter_step, withdraw_step, rebase_step, rekey_step, owner, name_reading, line_reading, entries_reading, file_reading, report_reading};
+ghost use Rattle.tacho_state.specs.Steps.{Content, register_step, import_step, enter_step, withdraw_range_step, rebase_step, rekey_step, rename_step, owner, name_reading, line_reading, entries_reading, file_reading, report_reading};
 ghost use Rattle.tacho_state.specs.Reported.{AreStretchesOf, IsHeldWithin, IsHeldFromBase, IsDriverReport};
 ghost use Rattle.tacho_stretches.specs.Stretches.{judged_of};
 ghost use Rattle.tacho_state.specs.Batch.{IsBatch, batch_of};
-ghost use Rattle.tacho_state.specs.Limits.{IsKey};
+ghost use Rattle.tacho_state.specs.Limits.{IsKey, IsName};
 ghost use Rattle.tacho_state.specs.Registration.{IsReadDay};
 ghost use Rattle.tacho_state.specs.Content.{FileTells, part_number};
 ghost use Rattle.tacho_state.specs.Files.{files_reading, told_file};
@@ -99,10 +99,19 @@ pub trait Keeper {
             (enter_step driver (batch_of lines.now)) }
         ensures count { IfOk result (λ done. done.count ≡ length lines.now) };
 
-    /// Withdraws an entry of a driver, which stays listed: S4, S7, S8. The driver still holds what downloads and other entries give.
-    fn withdraw(&mut self, alloc: Global, driver: u32, number: u32) -> Result<(), StoreFault>
+    /// Withdraws the entries of a driver from number `first` to `last`, all of them or none; they stay listed: S4, and S7 or S8 for the least
+    /// number that can't be withdrawn. The driver still holds what downloads and other entries give.
+    fn withdraw(
+        &mut self,
+        alloc: Global,
+        driver: u32,
+        first: u32,
+        last: u32,
+    ) -> Result<(), StoreFault>
+        requires { first ≤ last }
         ensures of_no_file { IsOfNoFile result }
-        ensures withdrawn { Acts stands is_clean is_live leaves is_same is_same_of (λ _. tt) self.old self.new result (withdraw_step driver number) };
+        ensures withdrawn { Acts stands is_clean is_live leaves is_same is_same_of (λ _. tt) self.old self.new result
+            (withdraw_range_step driver first last) };
 
     /// Sets the day, from 2000-01-03 to 2099-12-31, from which a driver is examined: S4, S9.
     fn rebase(&mut self, driver: u32, base: Day) -> Result<(), StoreFault>
@@ -115,6 +124,12 @@ pub trait Keeper {
         requires { IsKey key.now }
         ensures of_no_file { IsOfNoFile result }
         ensures rekeyed { Acts stands is_clean is_live leaves is_same is_same_of (λ _. tt) self.old self.new result (rekey_step driver key.now) };
+
+    /// Sets the name, of 1 to 64 bytes without control characters, commas and double quotes, of a driver: S4.
+    fn rename(&mut self, driver: u32, name: &str) -> Result<(), StoreFault>
+        requires { IsName name.now }
+        ensures of_no_file { IsOfNoFile result }
+        ensures renamed { Acts stands is_clean is_live leaves is_same is_same_of (λ _. tt) self.old self.new result (rename_step driver name.now) };
 
     /// Returns the number of the driver with this key, if there is one.
     fn who(&mut self, key: &[u8]) -> Result<Option<u32>, StoreFault>

@@ -1,7 +1,7 @@
 //! Laws about what a driver holds. A law is a function without a body: what it ensures is proved for all values of its variables. A range
 //! contains the minutes of a command: only rows that overlap it are read, and they aren't cut to it.
 
-ghost use Rattle.std.specs.Prelude.{◌≡◌, ℕ, ◌+◌, ◌<◌, ◌≤◌, ◌⊎◌, ◌++◌, List, [], ◌∷◌, Some, None, Result, Ok, Err, length, ◌↔◌, true, false};
+ghost use Rattle.std.specs.Prelude.{◌≡◌, ◌≢◌, ℕ, ◌+◌, ◌<◌, ◌≤◌, ◌⊎◌, ◌++◌, List, [], ◌∷◌, Some, None, Result, Ok, Err, length, ◌↔◌, true, false};
 ghost use Rattle.tacho_time.specs.Spans.{Gives, IsCanonicalOf, Conflicts, IsFirstConflict};
 ghost use Rattle.tacho_time.specs.declared.span.Mark.{Mark};
 ghost use Rattle.tacho_time.specs.declared.span.Span.{Span};
@@ -10,11 +10,11 @@ ghost use Rattle.tacho_state.specs.declared.fault.StoreFault.{StoreFault as Stor
 ghost use Rattle.tacho_state.specs.declared.fault.StoreFault.TheVariants.{Card, Contradiction, Full};
 ghost use Rattle.tacho_state.specs.Disjoint.{Keeps, near, with_range_replaced, AreInRange, AllWithin, With, HasNews};
 ghost use Rattle.tacho_state.specs.Least.{least_conflict, is_within};
-ghost use Rattle.tacho_state.specs.State.{Driver, Entry, State, IsDownloaded, Held, held_mark, driver_of, entered_spans, entry_from, marked_from, put, with_marked, with_download, with_batch};
+ghost use Rattle.tacho_state.specs.State.{Driver, Entry, State, IsDownloaded, Held, held_mark, driver_of, entered_spans, entry_from, marked_from, put, with_marked, with_marked_between, with_download, with_batch};
 ghost use Rattle.tacho_card.specs.declared.fault.CardFault.{CardFault};
 ghost use Rattle.tacho_card.specs.declared.file.Part.{Part as PartValue};
 ghost use Rattle.tacho_state.specs.Content.{FileTells};
-ghost use Rattle.tacho_state.specs.Steps.{Content, Turn, most_records, import_own, enter_own, withdraw_step};
+ghost use Rattle.tacho_state.specs.Steps.{Content, Turn, most_records, import_own, enter_own, line_reading, name_reading, owner, rename_step, withdraw_range_step, withdraw_step};
 ghost use Rattle.tacho_state.specs.Acts.{Acts, Reads, IsOfNoFile};
 ghost use Rattle.tacho_state.specs.declared.imported.Imported.TheVariants.{Added, Repeated};
 ghost use Rattle.tacho_state.specs.Runs.{Call, IsCall, IsRun, AreAnswered, state_after, without_value};
@@ -105,6 +105,27 @@ pub fn enter_answers()
 pub fn withdrawal_answers()
     ensures { (n number : ℕ) (s : State) (d : Driver) (e : Entry) → driver_of n s ≡ Some d → entry_from 1 number d.entries ≡ Some e → e.withdrawn ≡ false
         → withdraw_step n number s ≡ record { answer = Ok tt; after = put (with_marked number d) s } }
+{}
+
+/// A withdrawal of a range is the withdrawals of its numbers, one after the other. If a number can't be withdrawn, the least one says why, and
+/// the driver is as before. Otherwise the entries of the range are withdrawn, and no other entry changes.
+pub fn withdrawals_of_a_range()
+    ensures one { (n number : ℕ) (s : State) → withdraw_range_step n number number s ≡ withdraw_step n number s }
+    ensures least { (n first number last : ℕ) (s : State) (fault : StoreFaultValue) → first ≤ number → number ≤ last
+        → ((i : ℕ) → first ≤ i → i < number → (withdraw_step n i s).answer ≡ Ok tt) → (withdraw_step n number s).answer ≡ Err fault
+        → withdraw_range_step n first last s ≡ record { answer = Err fault; after = s } }
+    ensures done { (n first last : ℕ) (s : State) (d : Driver) → driver_of n s ≡ Some d → first ≤ last
+        → ((i : ℕ) → first ≤ i → i ≤ last → (withdraw_step n i s).answer ≡ Ok tt)
+        → withdraw_range_step n first last s ≡ record { answer = Ok tt; after = put (with_marked_between first last d) s } }
+{}
+
+/// A changed name is the driver's. What they hold, their key and all other drivers stay as they were.
+pub fn a_changed_name()
+    ensures name { (n : ℕ) (name : List ℕ) (s : State) → (rename_step n name s).answer ≡ Ok tt
+        → name_reading n (rename_step n name s).after ≡ Ok name }
+    ensures line { (n i : ℕ) (name : List ℕ) (s : State) → line_reading i (rename_step n name s).after ≡ line_reading i s }
+    ensures key { (n : ℕ) (name key : List ℕ) (s : State) → owner key (rename_step n name s).after ≡ owner key s }
+    ensures others { (n i : ℕ) (name : List ℕ) (s : State) → i ≢ n → driver_of i (rename_step n name s).after ≡ driver_of i s }
 {}
 
 /// If spans keep what a driver holds, each held minute has one mark: that of `held_mark`.
