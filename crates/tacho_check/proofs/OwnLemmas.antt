@@ -16,7 +16,8 @@ use Rattle.tacho_tables.specs.Rows.{SpanRow, DownloadRow, EntryRow, DriverRow, s
 use Rattle.tacho_tables.specs.Tables.{Tables, has_number}
 use Rattle.tacho_reading.specs.Standing.{IsMark, mark_number, numbered_mark, row_span, span_row, spans_of, driver_columns, HasNot, AreDistinct, RowsRepresent, TablesRepresent}
 use Rattle.tacho_reading.proofs.RowLemmas.{eq_true, eq_false}
-use Rattle.tacho_reading.proofs.StateLemmas.{found_number, found_of}
+use Rattle.tacho_state.proofs.PutLemmas.{found_number}
+use Rattle.tacho_reading.proofs.StateLemmas.{found_of}
 use Rattle.tacho_reading.proofs.DriverRowLemmas.{no_number_row}
 use Rattle.tacho_check.specs.declared.table.TableName.{TableName}
 use Rattle.tacho_check.specs.declared.table.TableName.TheVariants.{Drivers, Downloads, CardSpans, EntryRows, Held}

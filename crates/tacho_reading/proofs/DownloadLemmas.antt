@@ -10,7 +10,8 @@ use Rattle.tacho_tables.specs.Tables.{Tables, is_download}
 use Rattle.tacho_reading.specs.Standing.{TablesRepresent, rows_of_downloads, downloads_of}
 use Rattle.tacho_reading.proofs.RowLemmas.{eq_self, eq_not, eq_true}
 use Rattle.tacho_reading.proofs.DriverRowLemmas.{first_or_rest, none_there}
-use Rattle.tacho_reading.proofs.StateLemmas.{found_number, found_of}
+use Rattle.tacho_state.proofs.PutLemmas.{found_number}
+use Rattle.tacho_reading.proofs.StateLemmas.{found_of}
 
 -- the row has this number, whatever its driver
 abbrev has_own_number : ℕ → DownloadRow → Bool

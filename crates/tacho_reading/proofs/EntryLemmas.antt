@@ -7,7 +7,8 @@ use Rattle.tacho_tables.specs.Tables.{Tables, is_entry}
 use Rattle.tacho_reading.specs.Standing.{entry_row, rows_of_entries, driver_entry_rows, TablesRepresent}
 use Rattle.tacho_reading.proofs.RowLemmas.{eq_not, eq_true}
 use Rattle.tacho_reading.proofs.DriverRowLemmas.{first_or_rest, none_there}
-use Rattle.tacho_reading.proofs.StateLemmas.{found_number, found_of}
+use Rattle.tacho_state.proofs.PutLemmas.{found_number}
+use Rattle.tacho_reading.proofs.StateLemmas.{found_of}
 
 -- the row has this number, whatever its driver
 abbrev has_own_number : ℕ → EntryRow → Bool

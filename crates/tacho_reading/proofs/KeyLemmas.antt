@@ -6,7 +6,8 @@ use Rattle.tacho_state.specs.Steps.{is_another, owner, own_turn, refusal_turn, r
 use Rattle.tacho_state.specs.declared.fault.StoreFault.TheVariants.{KeyTaken}
 use Rattle.tacho_reading.specs.Standing.{AreDistinct, HasNoKey}
 use Rattle.tacho_reading.proofs.DriverRowLemmas.{bytes_not, bytes_eq_self}
-use Rattle.tacho_reading.proofs.StateLemmas.{found_number, found_key}
+use Rattle.tacho_state.proofs.PutLemmas.{found_number}
+use Rattle.tacho_reading.proofs.StateLemmas.{found_key}
 
 -- a key that nobody has is found of nobody
 not_found : (key : List ℕ) (s : State) → HasNoKey key s → driver_with_key key s ≡ None

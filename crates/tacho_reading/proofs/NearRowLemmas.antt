@@ -14,7 +14,8 @@ use Rattle.tacho_tables.specs.Tables.{Tables, is_row_near, span_of}
 use Rattle.tacho_reading.specs.Standing.{TablesRepresent, spans_of, stored_span, IsReadNear}
 use Rattle.tacho_reading.proofs.RowLemmas.{near_spans}
 use Rattle.tacho_reading.proofs.DriverRowLemmas.{first_or_rest, none_there}
-use Rattle.tacho_reading.proofs.StateLemmas.{found_number, found_of}
+use Rattle.tacho_state.proofs.PutLemmas.{found_number}
+use Rattle.tacho_reading.proofs.StateLemmas.{found_of}
 
 -- a pair that a list of spans gives is given by one of them
 giver : (xs : List Span) (m : ℕ) (k : Mark) → Gives xs m k → (s : Span) × Contains xs s × Covers s m × (s.mark ≡ k)

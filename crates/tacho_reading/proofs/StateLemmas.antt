@@ -3,6 +3,7 @@ use Rattle.std.proofs.Common.{◌≡◌, ◌≢◌, ℕ, ◌==◌, Bool, true, f
 use Rattle.tacho_time.specs.declared.span.Span.{Span}
 use Rattle.tacho_state.specs.Disjoint.{Keeps}
 use Rattle.tacho_state.specs.State.{Driver, State, IsDownloaded, Held, driver_of, put}
+use Rattle.tacho_state.proofs.PutLemmas.{found_number}
 use Rattle.tacho_tables.specs.Rows.{DriverRow}
 use Rattle.tacho_tables.specs.Tables.{Tables}
 use Rattle.tacho_reading.specs.Standing.{driver_columns, downloads_of, driver_entry_rows, spans_of, RowsRepresent, RowsRepresentEach, HasNot, HasNoKey, IsHolderFree, AreDistinct, AreKnown, AreMarked, TablesRepresent}
@@ -30,14 +31,6 @@ moved t u d s h = record {
 moved_each : (t u : Tables) (n : ℕ) (s : State) → HasNot n s → ((j : ℕ) → j ≢ n → SameOfDriver j t u) → RowsRepresentEach t s → RowsRepresentEach u s
 moved_each t u n [] o f h = tt
 moved_each t u n (d ∷ s) o f h = (moved t u d (f d.number o.0) h.0, moved_each t u n s o.1 f h.1)
-
--- a driver who is found by a number has this number
-pub found_number : (n : ℕ) (s : State) (d : Driver) → driver_of n s ≡ Some d → d.number ≡ n
-found_number n [] d e = cc
-found_number n (x ∷ s) d e = go (x.number == n) refl e (found_number n s d) where
-  go : (b : Bool) → (x.number == n) ≡ b → cond b (Some x) (driver_of n s) ≡ Some d → (driver_of n s ≡ Some d → d.number ≡ n) → d.number ≡ n
-  go true o f more = let same : x ≡ d = cc in ap (λ (y : Driver). y.number) (sym same) ∙ eq_true x.number n o
-  go false o f more = more f
 
 -- the tables represent the driver who is found
 pub found_of : (t : Tables) (n : ℕ) (s : State) (d : Driver) → driver_of n s ≡ Some d → RowsRepresentEach t s → RowsRepresent t d
