@@ -4,7 +4,7 @@ pub mod BatchLemmas
 pub mod TextLemmas
 pub mod NumberLemmas
 pub mod DriverLemmas
-pub mod KeyLemmas
+pub mod ValueLemmas
 pub mod RowLemmas
 pub mod AmountLemmas
 pub mod SheetLemmas

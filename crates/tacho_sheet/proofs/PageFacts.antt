@@ -210,6 +210,9 @@ e10_note = refl
 n1 : fault_line fault.Number ≡ codes "N1 bad number\n"
 n1 = refl
 
+n2 : fault_line fault.Order ≡ codes "N2 wrong order\n"
+n2 = refl
+
 p1 : fault_line fault.Part ≡ codes "P1 bad part\n"
 p1 = refl
 

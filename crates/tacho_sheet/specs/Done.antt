@@ -19,6 +19,10 @@ entered_text first count =
     if count == 0 then codes "entered none\n"
     else codes "entered " ++ (decimal first ++ number_line (codes " to ") (first + count - 1))
 
+-- the numbers of the first and the last entry of a range that was withdrawn
+abbrev pub withdrawn_text : ℕ → ℕ → List ℕ
+withdrawn_text first last = codes "withdrawn " ++ (decimal first ++ number_line (codes " to ") last)
+
 -- the driver's base
 abbrev pub base_line : ℕ → List ℕ
 base_line day = codes "base " ++ (day_text day ++ codes "\n")

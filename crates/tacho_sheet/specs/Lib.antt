@@ -6,7 +6,7 @@ pub mod Fault
 pub mod Text
 pub mod Number
 pub mod Driver
-pub mod Key
+pub mod Value
 pub mod Cut
 pub mod Reports
 pub mod Done

@@ -1,6 +1,6 @@
 ghost use Rattle.std.specs.Prelude.{◌≡◌, ◌≤◌, ◌+◌, ◌++◌, codes, decimal, length};
 ghost use Rattle.arrayvec.specs.ArrayVec.{array_vec_len};
-ghost use Rattle.tacho_sheet.specs.Done.{base_line as line_of_base, entered_text, imported_text, number_line};
+ghost use Rattle.tacho_sheet.specs.Done.{base_line as line_of_base, entered_text, imported_text, number_line, withdrawn_text};
 
 use arrayvec::ArrayVec;
 use itoa::Buffer;
@@ -29,6 +29,18 @@ pub fn withdrawn_line(number: u32) -> DoneLine
 {
     let mut line = begun(b"withdrawn ");
     put_number(&mut line, number.into());
+    put(&mut line, b"\n");
+    line
+}
+
+/// The line after a withdrawal of a range: `withdrawn 1 to 672`.
+pub fn withdrawn_range_line(first: u32, last: u32) -> DoneLine
+    ensures { result.items ≡ withdrawn_text first last }
+{
+    let mut line = begun(b"withdrawn ");
+    put_number(&mut line, first.into());
+    put(&mut line, b" to ");
+    put_number(&mut line, last.into());
     put(&mut line, b"\n");
     line
 }
@@ -91,6 +103,16 @@ pub fn key_line(driver: u32) -> DoneLine
     ensures { result.items ≡ number_line (codes "key ") driver }
 {
     let mut line = begun(b"key ");
+    put_number(&mut line, driver.into());
+    put(&mut line, b"\n");
+    line
+}
+
+/// The line after a name was set: `name 17`.
+pub fn name_line(driver: u32) -> DoneLine
+    ensures { result.items ≡ number_line (codes "name ") driver }
+{
+    let mut line = begun(b"name ");
     put_number(&mut line, driver.into());
     put(&mut line, b"\n");
     line

@@ -45,7 +45,7 @@ pub(crate) fn read_key(text: &[u8]) -> Option<&str>
 }
 
 /// Reads a name.
-fn read_name(text: &[u8]) -> Option<&str>
+pub(crate) fn read_name(text: &[u8]) -> Option<&str>
     ensures { MatchOption result (¬ (IsNameText text.now)) (λ name. (name.now ≡ text.now) × IsName name.now) }
 {
     let Ok(name) = str::from_utf8(text) else {

@@ -68,6 +68,8 @@ pub enum Fault {
     Sheet(SheetFault),
     /// N1: the number of a driver, an entry or a download is out of its limits, or isn't a number.
     Number,
+    /// N2: the second number of a range is less than the first.
+    Order,
     /// P1: no part of a card file has this name.
     Part,
     /// X1: the input is over the limit.

@@ -23,6 +23,7 @@ pub fn fault_line(fault: Fault) -> FaultLine
         Fault::Store(fault) => line_of_store(fault),
         Fault::Sheet(fault) => line_of_sheet(fault),
         Fault::Number => line_of("N1 bad number\n"),
+        Fault::Order => line_of("N2 wrong order\n"),
         Fault::Part => line_of("P1 bad part\n"),
         Fault::TooLarge => line_of("X1 too large\n"),
         Fault::Device => line_of("X2 device failed\n"),

@@ -1,0 +1,6 @@
+use Rattle.std.proofs.Common.{refl}
+use Rattle.tacho_sheet.proofs.ValueLemmas.{no_name_line}
+use Rattle.tacho_sheet.proofs.value.read_name_line.Goals as goal
+
+pub returns-in-None : goal.returns-in-None
+returns-in-None c = (refl, no_name_line c.args.text.now c.without_end.result.now c.without_end.ensures c.in-None.ensures)
