@@ -3,6 +3,7 @@ pub mod RowLemmas
 pub mod GainLemmas
 pub mod ImportLemmas
 pub mod EntryLemmas
+pub mod RangeLemmas
 pub mod ShelfLemmas
 pub mod TurnLemmas
 pub mod SummaryLemmas

@@ -43,6 +43,14 @@ IsLeast least fault = OrMemory Memory fault ((m : ℕ) × (fault ≡ Contradicti
 abbrev pub IsEnteredAt : List Entry → ℕ → ℕ → Type 0
 IsEnteredAt entries number i = (number ≡ 1 + i) × ((e : Entry) × (slice_get entries i ≡ Some e) × (e.withdrawn ≡ false))
 
+-- there is an entry with this number, which isn't withdrawn
+abbrev pub IsEntered : List Entry → ℕ → Type 0
+IsEntered entries number = (i : ℕ) × IsEnteredAt entries number i
+
+-- so there is for each number from `first` to `last`
+abbrev pub AreEntered : List Entry → ℕ → ℕ → Type 0
+AreEntered entries first last = (number : ℕ) → first ≤ number → number ≤ last → IsEntered entries number
+
 -- the fault is out of memory, or the first fault of the card file for this part
 abbrev pub IsCardFault : Part → List ℕ → StoreFault → Type 0
 IsCardFault part bytes fault = OrMemory Memory fault ((f : CardFault) × (fault ≡ Card f) × FileTells part bytes (Err f))

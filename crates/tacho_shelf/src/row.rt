@@ -80,7 +80,7 @@ impl Model for Row {
 }
 
 impl Row {
-    ghost use Rattle.std.specs.Prelude.{◌≡◌, ◌⊎◌, ◌*◌, ◌<◌, ℕ, List, ◌++◌, length, All, None, Ok, Err, bytes_eq, string_bytes, IfOk, IfErr, OnOk, OnSome, OnErr, MatchResult, map};
+    ghost use Rattle.std.specs.Prelude.{◌≡◌, ◌⊎◌, ◌*◌, ◌+◌, ◌-◌, ◌<◌, ◌≤◌, ℕ, List, ◌++◌, length, All, None, Ok, Err, bytes_eq, string_bytes, IfOk, IfErr, OnOk, OnSome, OnErr, MatchResult, map};
     ghost use Rattle.std.specs.Option.{option_copied};
     ghost use Rattle.tacho_time.specs.Spans.{Gives, IsCanonical, IsCanonicalOf, Conflicts};
     ghost use Rattle.tacho_line.specs.Line.{first_empty};
@@ -89,12 +89,12 @@ impl Row {
     ghost use Rattle.tacho_state.specs.Batch.{IsEntryLine, batch_of};
     ghost use Rattle.tacho_state.specs.Least.{least_conflict, is_within};
     ghost use Rattle.tacho_state.specs.State.{IsDownloaded, Held, AreFull, given_spans, held_spans, download_from, with_batch};
-    ghost use Rattle.tacho_state.specs.Steps.{import_own, enter_own, withdraw_own, most_records, numbered_from};
+    ghost use Rattle.tacho_state.specs.Steps.{import_own, enter_own, withdraw_own, withdraw_from, most_records, numbered_from};
     ghost use Rattle.tacho_state.specs.Limits.{next_number};
     ghost use Rattle.tacho_state.specs.Content.{part_number};
     ghost use Rattle.tacho_state.specs.Files.{listed_from, told_file};
     ghost use Rattle.tacho_state.specs.Summaries.{summary_of, told_summary};
-    ghost use Rattle.tacho_shelf.specs.Shelf.{IsStepFault, IsLeast, IsEnteredAt, AreKept, new_driver, import_answer};
+    ghost use Rattle.tacho_shelf.specs.Shelf.{IsStepFault, IsLeast, IsEnteredAt, IsEntered, AreEntered, AreKept, new_driver, import_answer};
 
     /// Makes a driver who is registered now.
     pub(crate) fn new(alloc: Global, driver: &Driver) -> Result<Row, AllocError>
@@ -376,17 +376,52 @@ impl Row {
         Ok(place as usize)
     }
 
-    /// Withdraws an entry: S7, S8.
-    pub(crate) fn withdraw(&mut self, number: u32) -> Result<(), StoreFault>
-        ensures told { MatchResult result (λ _. withdraw_own number self.old ≡ Ok (tt, self.new)) (IsStepFault (withdraw_own number self.old)) }
+    /// Fails if an entry from number `first` to `last` can't be withdrawn, with the fault of the least such number: S7, S8.
+    fn check_range(&self, first: u32, last: u32) -> Result<(), StoreFault>
+        requires { first ≤ last }
+        ensures { MatchResult result (λ _. AreEntered self.now.entries first last) (λ fault. withdraw_from first (last + 1 - first) self.now ≡ Err fault) }
+    {
+        for number in first..=last {
+            if let Err(fault) = self.entered_place(number) {
+                return Err(fault);
+            }
+        }
+        Ok(())
+    }
+
+    /// Marks an entry as withdrawn, which isn't withdrawn yet. It is a function of its own so that the invariant holds after each entry.
+    fn mark(&mut self, number: u32)
+        requires { IsEntered self.old.entries number }
+        ensures { withdraw_own number self.old ≡ Ok (tt, self.new) }
+    {
+        let place = (number - 1) as usize;
+        self.entries[place].withdraw();
+    }
+
+    /// Marks the entries from number `first` to `last` as withdrawn, none of which is withdrawn yet.
+    #[tactic(auto, using(crate::proofs::RangeLemmas::last_marked))]
+    fn mark_range(&mut self, first: u32, last: u32)
+        requires range { first ≤ last }
+        requires entered { AreEntered self.old.entries first last }
+        ensures { withdraw_from first (last + 1 - first) self.old ≡ Ok (tt, self.new) }
+    {
+        for number in first..=last {
+            self.mark(number);
+        }
+    }
+
+    /// Withdraws the entries from number `first` to `last`, all of them or none: S7, S8. All are checked before the first is marked, so that a
+    /// refusal changes nothing.
+    pub(crate) fn withdraw(&mut self, first: u32, last: u32) -> Result<(), StoreFault>
+        requires { first ≤ last }
+        ensures told { MatchResult result (λ _. withdraw_from first (last + 1 - first) self.old ≡ Ok (tt, self.new)) (IsStepFault (withdraw_from first (last + 1 - first) self.old)) }
         ensures number { self.new.number ≡ self.old.number }
         ensures err { OnErr result (self.new ≡ self.old) }
     {
-        let place = match self.entered_place(number) {
-            Ok(place) => place,
-            Err(fault) => return Err(fault),
-        };
-        self.entries[place].withdraw();
+        if let Err(fault) = self.check_range(first, last) {
+            return Err(fault);
+        }
+        self.mark_range(first, last);
         Ok(())
     }
 
@@ -426,6 +461,13 @@ impl Row {
         ensures { self.new ≡ record self.old { key = string_bytes key } }
     {
         self.key = key;
+    }
+
+    /// Sets the driver's name.
+    pub(crate) fn set_name(&mut self, name: String)
+        ensures { self.new ≡ record self.old { name = string_bytes name } }
+    {
+        self.name = name;
     }
 }
 

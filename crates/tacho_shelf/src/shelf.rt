@@ -1,11 +1,11 @@
-ghost use Rattle.std.specs.Prelude.{◌≡◌, ◌⊎◌, ℕ, ◌++◌, [], ◌∷◌, Result, Ok, Err, None, MatchOption, MatchResult, IfNone, IfOk, OnOk, OnErr, length, map, string_bytes};
+ghost use Rattle.std.specs.Prelude.{◌≡◌, ◌⊎◌, ◌≤◌, ℕ, ◌++◌, [], ◌∷◌, Result, Ok, Err, None, MatchOption, MatchResult, IfNone, IfOk, OnOk, OnErr, length, map, string_bytes};
 ghost use Rattle.tacho_card.specs.declared.fault.CardFault.{CardFault};
 ghost use Rattle.tacho_state.specs.declared.imported.Imported.TheVariants.{Repeated};
 ghost use Rattle.tacho_line.specs.Line.{mark_at};
 ghost use Rattle.tacho_state.specs.State.{driver_of, driver_with_key, holding};
 ghost use Rattle.tacho_state.specs.Content.{FileTells, part_number};
 ghost use Rattle.tacho_state.specs.Batch.{IsBatch, batch_of};
-ghost use Rattle.tacho_state.specs.Steps.{Content, register_step, import_step, enter_step, withdraw_step, rebase_step, rekey_step, is_another, refusal_turn, owner, name_reading, line_reading, entries_reading, file_reading, report_reading, known_driver};
+ghost use Rattle.tacho_state.specs.Steps.{Content, register_step, import_step, enter_step, withdraw_range_step, rebase_step, rekey_step, rename_step, is_another, refusal_turn, owner, name_reading, line_reading, entries_reading, file_reading, report_reading, known_driver};
 ghost use Rattle.tacho_state.specs.Reported.{AreStretchesOf, IsHeldWithin, IsDriverReport};
 ghost use Rattle.tacho_stretches.specs.Stretches.{judged_of};
 ghost use Rattle.tacho_state.specs.Files.{files_reading, told_file};
@@ -124,14 +124,15 @@ impl Shelf {
         self.drivers[place].enter(alloc, lines)
     }
 
-    /// Withdraws an entry of a driver: S4, S7, S8.
-    fn withdraw_entry(&mut self, driver: u32, number: u32) -> Result<(), StoreFault>
-        ensures { Turns (λ _. tt) self.old self.new result (withdraw_step driver number) }
+    /// Withdraws the entries of a driver from number `first` to `last`, all of them or none: S4, S7, S8.
+    fn withdraw_entries(&mut self, driver: u32, first: u32, last: u32) -> Result<(), StoreFault>
+        requires { first ≤ last }
+        ensures { Turns (λ _. tt) self.old self.new result (withdraw_range_step driver first last) }
     {
         let Some(place) = place_of(&self.drivers, driver) else {
             return Err(StoreFault::UnknownDriver);
         };
-        self.drivers[place].withdraw(number)
+        self.drivers[place].withdraw(first, last)
     }
 
     /// Sets the day from which a driver is examined: S4, S9.
@@ -162,6 +163,20 @@ impl Shelf {
             return Err(StoreFault::Memory);
         };
         self.drivers[place].set_key(key);
+        Ok(())
+    }
+
+    /// Sets a driver's name: S4. The memory for it is allocated before the driver changes.
+    fn set_name(&mut self, driver: u32, name: &str) -> Result<(), StoreFault>
+        ensures { Turns (λ _. tt) self.old self.new result (rename_step driver name.now) }
+    {
+        let Some(place) = place_of(&self.drivers, driver) else {
+            return Err(StoreFault::UnknownDriver);
+        };
+        let Ok(name) = String::from_str(self.alloc, name) else {
+            return Err(StoreFault::Memory);
+        };
+        self.drivers[place].set_name(name);
         Ok(())
     }
 
@@ -437,8 +452,14 @@ impl Keeper for Shelf {
         self.enter_lines(alloc, driver, lines)
     }
 
-    fn withdraw(&mut self, alloc: Global, driver: u32, number: u32) -> Result<(), StoreFault> {
-        self.withdraw_entry(driver, number)
+    fn withdraw(
+        &mut self,
+        alloc: Global,
+        driver: u32,
+        first: u32,
+        last: u32,
+    ) -> Result<(), StoreFault> {
+        self.withdraw_entries(driver, first, last)
     }
 
     fn rebase(&mut self, driver: u32, base: Day) -> Result<(), StoreFault> {
@@ -447,6 +468,10 @@ impl Keeper for Shelf {
 
     fn rekey(&mut self, driver: u32, key: &str) -> Result<(), StoreFault> {
         self.set_key(driver, key)
+    }
+
+    fn rename(&mut self, driver: u32, name: &str) -> Result<(), StoreFault> {
+        self.set_name(driver, name)
     }
 
     fn who(&mut self, key: &[u8]) -> Result<Option<u32>, StoreFault> {

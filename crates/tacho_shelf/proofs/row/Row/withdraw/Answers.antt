@@ -1,20 +1,7 @@
-use Rattle.std.proofs.Common.{◌∙◌, ap, sym, subst, slice_set}
-use Rattle.tacho_state.specs.State.{Driver, Entry}
-use Rattle.tacho_state.specs.Steps.{withdraw_own}
-use Rattle.tacho_shelf.specs.Shelf.{AreKept, IsEnteredAt}
-use Rattle.tacho_shelf.proofs.EntryLemmas.{kept_left, withdraw_at}
+use Rattle.std.proofs.Common.{◌+◌, ◌-◌}
+use Rattle.tacho_state.proofs.RangeLemmas.{number_kept}
 use Rattle.tacho_shelf.proofs.row.Row.withdraw.Goals as goal
 
-pub invariant_of-self : goal.invariant_of-self
-invariant_of-self c =
-    let downloads = c.self.inside.downloads.items in
-    let entries = c.self.inside.entries.items in
-    subst (λ (e : Entry). AreKept downloads (slice_set entries c.in-Ok.place e)) (sym c.withdraw.ensures)
-    (kept_left downloads entries c.in-Ok.place c.index_mut.result.now c.self.invariant)
-
-pub returns-clause-told : goal.returns-clause-told
-returns-clause-told c =
-    let entries = c.self.inside.entries.items in
-    let place = subst (λ (d : Driver). IsEnteredAt d.entries c.args.number c.in-Ok.place) (sym c.self.view_is) c.in-Ok.ensures in
-    ap (withdraw_own c.args.number) (sym c.self.view_is)
-    ∙ withdraw_at c.args.number c.in-Ok.place _ c.index_mut.result.now c.withdraw.new.self place c.index_mut.ensures.value c.withdraw.ensures
+pub returns-clause-number : goal.returns-clause-number
+returns-clause-number c =
+    number_kept (c.args.last + 1 - c.args.first) c.args.first c.args.self.now c.mark_range.new.self c.mark_range.ensures

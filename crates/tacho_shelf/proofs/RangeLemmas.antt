@@ -1,0 +1,133 @@
+-- A withdrawal of a range of entries, which are all checked first and marked then; and what it answers.
+use Rattle.std.proofs.Common.{◌≡◌, ℕ, zero, suc, ◌+◌, ◌-◌, ◌<◌, ◌≤◌, ◌==◌, Bool, true, false, cond, List, Option, Some, None, Result, Ok, Err, refl, sym, ap, ◌∙◌, subst, arith}
+use Rattle.std.proofs.lemmas.Bool.Decides.{nat_tests}
+use Rattle.tacho_card.specs.declared.fault.CardFault.{CardFault}
+use Rattle.tacho_state.specs.declared.fault.StoreFault.{StoreFault}
+use Rattle.tacho_state.specs.declared.fault.StoreFault.TheVariants.{AlreadyWithdrawn, Card}
+use Rattle.tacho_state.specs.State.{Driver, Entry, State, driver_of, entry_from, with_marked}
+use Rattle.tacho_state.specs.Steps.{and_then, own_turn, turn_of, withdrawn_by, withdraw_own, withdraw_from, withdraw_range_step}
+use Rattle.tacho_state.specs.Acts.{Answers, IsOfNoFile}
+use Rattle.tacho_state.proofs.RangeLemmas.{IsKept, done_kept, one_more, refused_at, refused_still, still_kept}
+use Rattle.tacho_shelf.specs.Shelf.{IsEnteredAt, IsEntered, AreEntered}
+use Rattle.tacho_shelf.proofs.EntryLemmas.{entry_before, entry_at}
+
+-- ---- entries that can be withdrawn
+
+-- the entry with a number is at the place before it
+pub place_before : (entries : List Entry) (number : ℕ) → IsEntered entries number → IsEnteredAt entries number (number - 1)
+place_before entries number h =
+    let at = h.1.0 in
+    let place : h.0 ≡ number - 1 = omega (arith, at) in
+    subst (λ (i : ℕ). IsEnteredAt entries number i) place h.1
+
+-- an entry at a place is the one with its number
+entered_kept : (d : Driver) (number : ℕ) → IsEntered d.entries number → IsKept d number
+entered_kept d number h =
+    record { entry = h.1.1.0; there = entry_at 1 number h.0 d.entries h.1.0 ∙ h.1.1.1; kept = h.1.1.2 }
+
+-- and the entry with a number is at a place
+kept_entered : (d : Driver) (number : ℕ) → IsKept d number → IsEntered d.entries number
+kept_entered d zero h = let none = sym (entry_before 1 0 d.entries (omega arith)) ∙ h.there in cc
+kept_entered d (suc i) h = (i, (omega arith, (h.entry, sym (entry_at 1 (suc i) i d.entries (omega arith)) ∙ h.there, h.kept)))
+
+-- ---- the check
+
+-- the entries of the range up to the number at a place can be withdrawn
+pub one_checked : (entries : List Entry) (first number place : ℕ) → ((i : ℕ) → first ≤ i → i < number → IsEntered entries i)
+    → IsEnteredAt entries number place → (i : ℕ) → first ≤ i → i < number + 1 → IsEntered entries i
+one_checked entries first number place before h i low high = go (i == number) refl where
+  go : (b : Bool) → (i == number) ≡ b → IsEntered entries i
+  go true e = let same : number ≡ i = grind (arith, nat_tests) in subst (IsEntered entries) same (place, h)
+  go false e = let less : i < number = grind (arith, nat_tests) in before i low less
+
+-- the least number that can't be withdrawn refuses the range
+pub range_refused : (first number last : ℕ) (d : Driver) (fault : StoreFault) → first ≤ number → number ≤ last
+    → ((i : ℕ) → first ≤ i → i < number → IsEntered d.entries i) → withdraw_own number d ≡ Err fault
+    → withdraw_from first (last + 1 - first) d ≡ Err fault
+range_refused first number last d fault low high before refused =
+    let all : last + 1 - first ≡ suc (number - first) + (last - number) = omega (arith, low, high) in
+    let past : first + (number - first) ≡ number = omega (arith, low) in
+    ap (λ k. withdraw_from first k d) all
+    ∙ refused_still (last - number) (suc (number - first)) first d fault
+    (refused_at (number - first) first d fault (λ i l h. entered_kept d i (before i l (omega (arith, low, h))))
+    (ap (λ k. withdraw_own k d) past ∙ refused))
+
+-- ---- the marks
+
+-- the entries from `first` to before `number` are withdrawn, and those from `number` to `last` can be
+pub record HasMarked (first number last : ℕ) (old d : Driver) : Type 0 where
+  pub done : withdraw_from first (number - first) old ≡ Ok (tt, d)
+  pub left : (i : ℕ) → number ≤ i → i ≤ last → IsKept d i
+
+-- at first none is
+pub none_marked : (first last : ℕ) (d : Driver) → AreEntered d.entries first last → HasMarked first first last d d
+none_marked first last d h =
+    let none : first - first ≡ 0 = omega arith in
+    record {
+      done = ap (λ k. withdraw_from first k d) none;
+      left = λ i low high. entered_kept d i (h i low high);
+    }
+
+-- the entry that is marked next
+pub next_entered : (first number last : ℕ) (old d : Driver) → HasMarked first number last old d → number ≤ last → IsEntered d.entries number
+next_entered first number last old d h high = kept_entered d number (h.left number (omega arith) high)
+
+-- then it is withdrawn too
+pub one_marked : (first number last : ℕ) (old d after : Driver) → first ≤ number → HasMarked first number last old d
+    → withdraw_own number d ≡ Ok (tt, after) → HasMarked first (number + 1) last old after
+one_marked first number last old d after low h e =
+    let count : number + 1 - first ≡ suc (number - first) = omega (arith, low) in
+    let past : first + (number - first) ≡ number = omega (arith, low) in
+    let is : after ≡ with_marked number d = (done_kept d after number tt e).1 in
+    record {
+      done = ap (λ k. withdraw_from first k old) count ∙ one_more (number - first) first old
+          ∙ ap (λ r. and_then r (withdraw_own (first + (number - first)))) h.done ∙ ap (λ k. withdraw_own k d) past ∙ e;
+      left = λ i l high.
+          subst (λ (x : Driver). IsKept x i) (sym is)
+          (still_kept d number i (λ same. omega (arith, same, l)) (h.left i (omega (arith, l)) high));
+    }
+
+-- after the last number all are
+pub last_marked : (first number last : ℕ) (old d after : Driver) → HasMarked first number last old d → first ≤ number
+    → last ≤ number → number ≤ last → withdraw_own number d ≡ Ok (tt, after) → withdraw_from first (last + 1 - first) old ≡ Ok (tt, after)
+last_marked first number last old d after h low past high e =
+    let end : number + 1 ≡ last + 1 = omega (arith, past, high) in
+    ap (λ (k : ℕ). withdraw_from first (k - first) old) (sym end) ∙ (one_marked first number last old d after low h e).done
+
+-- ---- the answer
+
+-- no withdrawal fails with a file's fault
+one_of_no_file : (number : ℕ) (d : Driver) (card : CardFault) → withdraw_own number d ≡ Err (Card card) → ⊥
+one_of_no_file number d card = go (entry_from 1 number d.entries) where
+  flag : (w : Bool) → cond {A = Result (Unit {0} × Driver) StoreFault} w (Err AlreadyWithdrawn) (Ok (tt, with_marked number d)) ≡ Err (Card card)
+      → ⊥
+  flag true e = cc
+  flag false e = cc
+
+  go : (o : Option Entry) → withdrawn_by number d o ≡ Err (Card card) → ⊥
+  go None e = cc
+  go (Some x) e = flag x.withdrawn e
+
+all_of_no_file : (count first : ℕ) (d : Driver) (card : CardFault) → withdraw_from first count d ≡ Err (Card card) → ⊥
+all_of_no_file zero first d card e = cc
+all_of_no_file (suc count) first d card e =
+    go (withdraw_own first d) (one_of_no_file first d card) (λ x. all_of_no_file count (first + 1) x card) e where
+      go : (r : Result (Unit {0} × Driver) StoreFault) → (r ≡ Err (Card card) → ⊥)
+          → ((x : Driver) → withdraw_from (first + 1) count x ≡ Err (Card card) → ⊥)
+          → and_then r (withdraw_from (first + 1) count) ≡ Err (Card card) → ⊥
+      go (Err fault) one more f = one (let same : fault ≡ Card card = cc in ap Err same)
+      go (Ok done) one more f = more done.1 f
+
+-- so no call that answers as the step does fails with one
+pub range_of_no_file : (n first last : ℕ) (s : State) (result : Result (Unit {0}) StoreFault)
+    → Answers {B = Unit {0}} (λ (u : Unit {0}). tt) result (withdraw_range_step n first last s).answer → IsOfNoFile result
+range_of_no_file n first last s (Ok u) h = tt
+range_of_no_file n first last s (Err (Card card)) h = go (driver_of n s) h where
+  turned : (r : Result (Unit {0} × Driver) StoreFault) → (r ≡ Err (Card card) → ⊥) → (turn_of s r).answer ≡ Err (Card card) → ⊥
+  turned (Ok done) none e = cc
+  turned (Err fault) none e = none (let same : fault ≡ Card card = cc in ap Err same)
+
+  go : (o : Option Driver) → (own_turn (withdraw_from first (last + 1 - first)) s o).answer ≡ Err (Card card) → ⊥
+  go None e = cc
+  go (Some d) e = turned (withdraw_from first (last + 1 - first) d) (all_of_no_file (last + 1 - first) first d card) e
+range_of_no_file n first last s (Err fault) h = tt

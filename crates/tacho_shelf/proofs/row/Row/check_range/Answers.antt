@@ -1,0 +1,21 @@
+use Rattle.std.proofs.Common.{arith}
+use Rattle.tacho_shelf.proofs.RangeLemmas.{range_refused, one_checked}
+use Rattle.tacho_shelf.proofs.row.Row.check_range.Goals as goal
+use Rattle.tacho_shelf.proofs.row.Row.check_range.Goals.{else-loop-number-test, then-loop-number-test+in_default+else-number-last}
+
+pub returns-in-Err : goal.returns-in-Err
+returns-in-Err c =
+    range_refused c.args.first c.loop-number.number c.args.last c.args.self.now c.in-Err.fault c.loop-number.auto.number
+    (omega (arith, c.loop-number-test.true)) c.loop-number.invariant c.in-Err.ensures
+
+pub loop-number-preserved : goal.loop-number-preserved
+loop-number-preserved c =
+    one_checked c.args.self.now.entries c.args.first c.loop-number.number c.in_default.field-0 c.loop-number.invariant c.in_default.ensures
+
+pub returns : goal.returns
+returns c = elim c.loop-number-test.branch [
+  | else-loop-number-test w ↦ λ i low high. c.loop-number.invariant i low (omega (arith, w.loop-number-test.false, high))
+  | then-loop-number-test+in_default+else-number-last w ↦ λ i low high.
+      one_checked c.args.self.now.entries c.args.first c.loop-number.number w.in_default.field-0 c.loop-number.invariant w.in_default.ensures
+      i low (omega (arith, high))
+]
