@@ -8,7 +8,7 @@ use Rattle.tacho_state.specs.declared.fault.StoreFault.TheVariants.{Full}
 use Rattle.tacho_state.specs.Limits.{next_number}
 use Rattle.tacho_state.specs.State.{Driver, State, driver_of, put, with_download}
 use Rattle.tacho_state.specs.Steps.{turn_of, import_own, most_records}
-use Rattle.tacho_reading.proofs.StateLemmas.{found_number}
+use Rattle.tacho_state.proofs.PutLemmas.{found_number}
 use Rattle.tacho_store.specs.declared.import.Importer.{Importer}
 use Rattle.tacho_store.specs.Importing.{IsImporterOf, AreAdded}
 use Rattle.sqlite.specs.Tree.{Trees}

@@ -12,7 +12,8 @@ use Rattle.tacho_tables.specs.Rows.{DriverRow, EntryRow}
 use Rattle.tacho_tables.specs.Tables.{Tables, with_entries}
 use Rattle.tacho_reading.specs.Standing.{driver_columns, entry_row, rows_of_entries, driver_entry_rows, spans_of, RowsRepresent, TablesRepresent}
 use Rattle.tacho_reading.proofs.RowLemmas.{eq_self, eq_not, added_own, added_other, added_marks}
-use Rattle.tacho_reading.proofs.StateLemmas.{SameOfDriver, found_number, found_of, put_is, rows_put}
+use Rattle.tacho_state.proofs.PutLemmas.{found_number}
+use Rattle.tacho_reading.proofs.StateLemmas.{SameOfDriver, found_of, put_is, rows_put}
 use Rattle.tacho_store.specs.After.{with_entered}
 
 -- ---- rows of a batch

@@ -24,7 +24,7 @@ use Rattle.tacho_reading.proofs.ApartLemmas.{card_apart, held_apart}
 use Rattle.tacho_reading.proofs.NearRowLemmas.{read_line, card_kept, held_kept}
 use Rattle.tacho_reading.specs.Finding.{IsFindingFault}
 use Rattle.tacho_reading.proofs.LookUpLemmas.{handed_on}
-use Rattle.tacho_reading.proofs.StateLemmas.{found_number}
+use Rattle.tacho_state.proofs.PutLemmas.{found_number}
 use Rattle.tacho_reading.proofs.LineWithinLemmas.{AreRead}
 use Rattle.tacho_store.specs.declared.news.News.{News}
 use Rattle.tacho_store.specs.News.{AreNews, IsNewsRefused}

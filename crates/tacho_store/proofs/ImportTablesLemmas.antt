@@ -14,7 +14,8 @@ use Rattle.tacho_tables.specs.Tables.{Tables, with_downloads}
 use Rattle.tacho_reading.specs.Standing.{driver_columns, spans_of, AreRead, RowsRepresent, TablesRepresent}
 use Rattle.tacho_reading.proofs.RowLemmas.{eq_self, eq_not, added_own, added_other, added_marks}
 use Rattle.tacho_reading.proofs.DownloadLemmas.{download_row, rows_append, own_added, other_added, one_more}
-use Rattle.tacho_reading.proofs.StateLemmas.{SameOfDriver, found_number, found_of, put_is, rows_put}
+use Rattle.tacho_state.proofs.PutLemmas.{found_number}
+use Rattle.tacho_reading.proofs.StateLemmas.{SameOfDriver, found_of, put_is, rows_put}
 use Rattle.tacho_store.specs.After.{with_imported}
 
 -- if the spans of downloads are those of their files, they still are with one more download

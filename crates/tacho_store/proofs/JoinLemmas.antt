@@ -13,7 +13,8 @@ use Rattle.tacho_reading.proofs.OrderedLemmas.{any_order_stands}
 use Rattle.tacho_store.specs.After.{with_driver, with_imported, with_entered, with_renewed}
 use Rattle.tacho_store.specs.Importing.{tables_after_download}
 use Rattle.tacho_store.specs.Entering.{tables_after_batch}
-use Rattle.tacho_store.proofs.OthersLemmas.{HaveSameSpansOf, followed, added_kept, renewed_kept}
+use Rattle.tacho_store.specs.Withdrawing.{HaveSameSpansOf, IsRenewed}
+use Rattle.tacho_store.proofs.OthersLemmas.{followed, added_kept, renewed_kept}
 
 -- ---- steps
 
@@ -136,12 +137,14 @@ same_renewed n number start past spans t = record {
   held = IsPermutation-append_comm (filter (λ r. not (is_row_near n start past r)) t.held) (map (span_row n) spans);
 }
 
--- the tables after a withdrawal's writes represent the state after it
-pub renewed_follows : (db next : Trees) (n number start past : ℕ) (spans : List Span) (t : Tables) (s after : State)
-    → HasTables db t → TablesRepresent t s → HasTables next (renewed n number start past (map (span_row n) spans) t)
-    → TablesRepresent (with_renewed n number start past spans t) after
-    → ((j : ℕ) → driver_of j after ≡ driver_of j s → j ≢ n) → Follows db next s after
-renewed_follows db next n number start past spans t s after stand of stands is other =
-    same_follow db next t (with_renewed n number start past spans t) (renewed n number start past (map (span_row n) spans) t) s after
-    stand of (same_renewed n number start past spans t) stands is
-    (λ j same. record { card_spans = refl; held = renewed_kept j n start past t.held spans (other j same) })
+-- the tables after a withdrawal's writes represent the state after it, and have the spans of all other drivers
+pub is_renewed : (next : Trees) (n number start past : ℕ) (spans : List Span) (t : Tables) (after : State)
+    → HasTables next (renewed n number start past (map (span_row n) spans) t)
+    → TablesRepresent (with_renewed n number start past spans t) after → IsRenewed n t next after
+is_renewed next n number start past spans t after stored is = record {
+  tables = with_renewed n number start past spans t;
+  stored = any_order_stands next (renewed n number start past (map (span_row n) spans) t) (with_renewed n number start past spans t)
+      (same_back _ _ (same_renewed n number start past spans t)) stored;
+  represent = is;
+  others = λ j other. record { card_spans = refl; held = renewed_kept j n start past t.held spans other };
+}

@@ -4,6 +4,8 @@ mod WithdrawalTablesLemmas
 mod RegistrationLemmas
 mod BaseLemmas
 mod RekeyLemmas
+mod RenameLemmas
+mod WithdrawnLemmas
 mod NewsLemmas
 mod OthersLemmas
 mod JoinLemmas

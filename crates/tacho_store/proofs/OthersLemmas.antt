@@ -1,16 +1,18 @@
 -- If a step changes nothing of a driver, it keeps that driver's rows.
-use Rattle.std.proofs.Common.{◌≡◌, ◌≢◌, ◌∙◌, ◌⊎◌, inl, inr, ℕ, ◌+◌, ◌==◌, ◌&&◌, nat_lt, Bool, true, false, cond, List, [], ◌∷◌, ◌++◌, map, filter, not, Option, Some, None, refl, sym, ap, subst, arith}
+use Rattle.std.proofs.Common.{◌≡◌, ◌≢◌, ◌∙◌, ◌⊎◌, inl, inr, ℕ, ◌==◌, ◌&&◌, nat_lt, Bool, true, false, cond, List, [], ◌∷◌, ◌++◌, map, filter, not, Option, Some, None, refl, sym, ap, subst, arith}
 use Rattle.std.proofs.lemmas.List.{append-nil}
 use Rattle.std.proofs.lemmas.List.Elements.{filter-append}
 use Rattle.sqlite.specs.Tree.{Trees}
 use Rattle.tacho_time.specs.declared.span.Span.{Span}
 use Rattle.tacho_line.specs.Line.{AreGains}
-use Rattle.tacho_state.specs.State.{Entry, Driver, State, driver_of, entry_from, marked_from, entered_spans, put, with_download, with_batch, with_marked}
+use Rattle.tacho_state.specs.State.{Entry, Driver, State, driver_of, entered_spans, put, with_download, with_batch}
 use Rattle.tacho_tables.specs.Rows.{SpanRow, DownloadRow, EntryRow, DriverRow}
 use Rattle.tacho_tables.specs.Tables.{Tables, HasTables, has_number, is_of, is_row_near}
 use Rattle.tacho_reading.specs.Standing.{Represents, TablesRepresent, AreDistinct, HaveSameRowsOf, KeepsRowsOf, Follows, driver_columns, downloads_of, driver_entry_rows, rows_of_downloads, rows_of_entries, span_row}
-use Rattle.tacho_reading.proofs.RowLemmas.{eq_self, eq_not, eq_true}
-use Rattle.tacho_reading.proofs.StateLemmas.{found_number, found_of}
+use Rattle.tacho_store.specs.Withdrawing.{HaveSameSpansOf}
+use Rattle.tacho_reading.proofs.RowLemmas.{eq_not, eq_true}
+use Rattle.tacho_state.proofs.PutLemmas.{found_number, put_found}
+use Rattle.tacho_reading.proofs.StateLemmas.{found_of}
 use Rattle.tacho_reading.proofs.DriverRowLemmas.{no_number_row}
 use Rattle.tacho_reading.proofs.EntryLemmas.{entry_all}
 use Rattle.tacho_store.proofs.RegistrationTablesLemmas.{number_not}
@@ -63,11 +65,6 @@ entries_are t s n of = go (driver_of n s) refl where
   go (Some d) e = entry_all t s n d of e
 
 -- ---- what follows
-
--- both have the same rows of spans of one driver
-pub record HaveSameSpansOf (n : ℕ) (t u : Tables) : Type 0 where
-  pub card_spans : filter (is_of n) t.card_spans ≡ filter (is_of n) u.card_spans
-  pub held : filter (is_of n) t.held ≡ filter (is_of n) u.held
 
 -- if two states agree on a driver, their tables have the same rows of that driver, other than spans
 same_rows : (t u : Tables) (s after : State) (n : ℕ) → TablesRepresent t s → TablesRepresent u after → driver_of n after ≡ driver_of n s
@@ -148,16 +145,6 @@ renewed_kept j n a b rows spans d =
 
 -- ---- a driver who is changed
 
--- a driver who replaces one with the same number is found by that number
-put_found : (d old : Driver) (s : State) → driver_of d.number s ≡ Some old → driver_of d.number (put d s) ≡ Some d
-put_found d old [] e = cc
-put_found d old (x ∷ s) e = go (x.number == d.number) refl e (put_found d old s) where
-  go : (b : Bool) → (x.number == d.number) ≡ b → cond b (Some x) (driver_of d.number s) ≡ Some old
-      → (driver_of d.number s ≡ Some old → driver_of d.number (put d s) ≡ Some d)
-      → driver_of d.number (cond b (d ∷ s) (x ∷ put d s)) ≡ Some d
-  go true o e more = ap (λ b. cond b (Some d) (driver_of d.number s)) (eq_self d.number)
-  go false o e more = ap (λ b. cond b (Some x) (driver_of d.number (put d s))) o ∙ more e
-
 -- if a step changes one driver, a driver whom it leaves as they were is a different one
 pub is_another : (n : ℕ) (d next : Driver) (s : State) → driver_of n s ≡ Some d → next.number ≡ n → next ≢ d
     → (j : ℕ) → driver_of j (put next s) ≡ driver_of j s → j ≢ n
@@ -181,33 +168,6 @@ download_changes part file spans d e =
 -- a batch that isn't empty changes its driver
 pub batch_changes : (first : Entry) (batch : List Entry) (d : Driver) → with_batch (first ∷ batch) d ≢ d
 batch_changes first batch d e = more_after d.entries batch first (ap (λ (x : Driver). x.entries) e)
-
--- a withdrawn entry is found as withdrawn
-marked_found : (i number : ℕ) (es : List Entry) (e : Entry) → entry_from i number es ≡ Some e
-    → entry_from i number (marked_from i number es) ≡ Some (record e { withdrawn = true })
-marked_found i number [] e f = cc
-marked_found i number (x ∷ es) e f = go (i == number) refl f (marked_found (i + 1) number es e) where
-  go : (b : Bool) → (i == number) ≡ b → cond b (Some x) (entry_from (i + 1) number es) ≡ Some e
-      → (entry_from (i + 1) number es ≡ Some e
-      → entry_from (i + 1) number (marked_from (i + 1) number es) ≡ Some (record e { withdrawn = true }))
-      → entry_from i number (cond b (record x { withdrawn = true } ∷ es) (x ∷ marked_from (i + 1) number es))
-      ≡ Some (record e { withdrawn = true })
-  go true o f more =
-      let same : x ≡ e = (let both = f in cc) in
-      ap (λ b. cond b (Some (record x { withdrawn = true })) (entry_from (i + 1) number es)) o
-      ∙ ap (λ (y : Entry). Some (record y { withdrawn = true })) same
-  go false o f more = ap (λ b. cond b (Some x) (entry_from (i + 1) number (marked_from (i + 1) number es))) o ∙ more f
-
--- a withdrawal changes its driver
-pub mark_changes : (number : ℕ) (d : Driver) (e : Entry) → entry_from 1 number d.entries ≡ Some e → e.withdrawn ≡ false
-    → with_marked number d ≢ d
-mark_changes number d e some kept same =
-    let entries : marked_from 1 number d.entries ≡ d.entries = ap (λ (x : Driver). x.entries) same in
-    let both : Some (record e { withdrawn = true }) ≡ Some e =
-    sym (marked_found 1 number d.entries e some) ∙ ap (λ (es : List Entry). entry_from 1 number es) entries ∙ some in
-    let gone : record e { withdrawn = true } ≡ e = cc in
-    let wrong : true ≡ e.withdrawn = ap (λ (x : Entry). x.withdrawn) gone in
-    cc
 
 -- ---- a batch without lines
 

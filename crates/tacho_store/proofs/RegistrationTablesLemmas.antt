@@ -1,11 +1,11 @@
--- The tables after a registration, and after a change of a base or of a key.
+-- The tables after a registration, and after a change of a base, of a key or of a name.
 use Rattle.std.proofs.Common.{◌≡◌, ◌≢◌, ℕ, ◌==◌, not, Bool, true, false, cond, List, [], ◌∷◌, ◌++◌, Some, None, map, refl, sym, ap, ◌∙◌, subst}
 use Rattle.std.specs.Str.{bytes_eq}
 use Rattle.std.proofs.lemmas.List.{map-append}
 use Rattle.tacho_time.specs.declared.span.Span.{Span}
 use Rattle.tacho_time.specs.Spans.{Gives}
 use Rattle.tacho_state.specs.Disjoint.{Keeps}
-use Rattle.tacho_state.specs.State.{Download, Entry, Driver, State, driver_of, driver_with_key, holding, put, with_base, with_key}
+use Rattle.tacho_state.specs.State.{Download, Entry, Driver, State, driver_of, driver_with_key, holding, put, with_base, with_key, with_name}
 use Rattle.tacho_state.specs.Steps.{is_another}
 use Rattle.tacho_tables.specs.Rows.{DriverRow}
 use Rattle.tacho_tables.specs.Tables as tables
@@ -13,8 +13,9 @@ use Rattle.tacho_tables.specs.Tables.{Tables}
 use Rattle.tacho_reading.specs.Standing.{driver_columns, RowsRepresent, RowsRepresentEach, HasNot, HasNoKey, IsHolderFree, AreDistinct, AreKnown, TablesRepresent}
 use Rattle.tacho_reading.proofs.RowLemmas.{eq_self, eq_not, eq_true, eq_false}
 use Rattle.tacho_reading.proofs.DriverRowLemmas.{bytes_true, bytes_false}
-use Rattle.tacho_reading.proofs.StateLemmas.{SameOfDriver, IsKeyFreeFor, nobody_has, found_number, found_of, put_is, put_with_key, rows_put}
-use Rattle.tacho_store.specs.After.{with_driver, with_rebased, with_rekeyed}
+use Rattle.tacho_state.proofs.PutLemmas.{found_number}
+use Rattle.tacho_reading.proofs.StateLemmas.{SameOfDriver, IsKeyFreeFor, nobody_has, found_of, put_is, put_with_key, rows_put}
+use Rattle.tacho_store.specs.After.{with_driver, with_rebased, with_rekeyed, with_renamed}
 
 -- ---- a driver at the end
 
@@ -191,4 +192,28 @@ rekeyed_is t s n key d h k free =
     (λ x o. keyed_other n key x o))
     (record { downloads = own.downloads; read = own.read; entries = own.entries; full = own.full; card_spans = own.card_spans; held = own.held })
     (λ j o. keyed_same t n key j)
+    (record { card_spans = h.marked.card_spans; held = h.marked.held })
+
+-- ---- another name
+
+-- the driver's own row gets the name
+named_own : (n : ℕ) (name : List ℕ) (r : DriverRow) → r.driver ≡ n → tables.with_row_name n name r ≡ record r { name = name }
+named_own n name r e = ap (λ b. cond b (record r { name = name }) r) (subst (λ (k : ℕ). (k == n) ≡ true) (sym e) (eq_self n))
+
+-- no other row changes
+named_other : (n : ℕ) (name : List ℕ) (r : DriverRow) → r.driver ≢ n → tables.with_row_name n name r ≡ r
+named_other n name r d = ap (λ b. cond b (record r { name = name }) r) (eq_not r.driver n d)
+
+-- the tables with another name in the driver's row represent the state with that name
+pub renamed_is : (t : Tables) (s : State) (n : ℕ) (name : List ℕ) (d : Driver) → TablesRepresent t s → driver_of n s ≡ Some d
+    → TablesRepresent (with_renamed n name t) (put (with_name name d) s)
+renamed_is t s n name d h k =
+    let same = found_number n s d k in
+    let own = found_of t n s d k h.each in
+    put_is t (with_renamed n name t) n (with_name name d) d s h k same (record { key = refl; holder = refl })
+    (ap (λ (x : List DriverRow). map (tables.with_row_name n name) x) h.drivers
+    ∙ rows_put (tables.with_row_name n name) n (with_name name d) d s k same h.distinct (named_own n name (driver_columns d) same)
+    (λ x o. named_other n name x o))
+    (record { downloads = own.downloads; read = own.read; entries = own.entries; full = own.full; card_spans = own.card_spans; held = own.held })
+    (λ j o. record { downloads = refl; entries = refl; card_spans = refl; held = refl })
     (record { card_spans = h.marked.card_spans; held = h.marked.held })

@@ -17,17 +17,15 @@ use Rattle.tacho_tables.specs.declared.rows.StoredEntry.{StoredEntry}
 use Rattle.tacho_tables.specs.declared.rows.StoredSpan.{StoredSpan}
 use Rattle.tacho_tables.specs.Rows.{EntryRow, SpanRow}
 use Rattle.tacho_tables.specs.Tables.{Tables, HasTables, Turns, is_entry, is_row_near, ListedEntry, listed_entry, told_entry, row_of, with_withdrawn}
-use Rattle.tacho_reading.specs.Standing.{Represents, Follows, TablesRepresent, span_row, stored_span, entry_row, IsReadNear, IsKeptNear}
+use Rattle.tacho_reading.specs.Standing.{Represents, TablesRepresent, span_row, stored_span, entry_row, IsReadNear, IsKeptNear}
 use Rattle.tacho_reading.specs.Finding.{IsFindingFault}
 use Rattle.tacho_reading.specs.Apart.{AreRowsApart, driver_rows}
 use Rattle.tacho_reading.proofs.ApartLemmas.{card_apart, held_apart}
 use Rattle.tacho_reading.proofs.EntryLemmas.{entry_none, entry_some}
-use Rattle.tacho_reading.proofs.StateLemmas.{found_number}
 use Rattle.tacho_store.specs.After.{with_renewed}
-use Rattle.tacho_store.specs.Withdrawing.{IsThere, IsEntry, AreRowsFor, AreRenewed}
+use Rattle.tacho_store.specs.Withdrawing.{IsThere, IsEntry, AreRowsFor, AreRenewed, IsRenewed}
 use Rattle.tacho_store.proofs.WithdrawalTablesLemmas.{withdrawn_is}
-use Rattle.tacho_store.proofs.JoinLemmas.{renewed, renewed_follows}
-use Rattle.tacho_store.proofs.OthersLemmas.{is_another, mark_changes}
+use Rattle.tacho_store.proofs.JoinLemmas.{renewed, is_renewed}
 
 -- ---- what the step answers
 
@@ -202,24 +200,22 @@ renewed_is t s n number it rows d e of there = subst
     (λ found. withdrawn_is t s n d number e found.cards found.others found.helds found.are_rows.inside of there.driver there.entry
     found.cards_near found.others_near found.helds_near found.are_rows.given)
 
--- the tables after a withdrawal's writes represent the state after it
-pub withdrawal_follows : {E : Type 0} (db marked next : Trees) (s : State) (n number : ℕ) (it : StoredEntry)
-    (rows : List StoredSpan) (r : Result (Unit {0}) E) → IsEntry s n number (Ok it) → Represents db s
+-- the tables after a withdrawal's writes represent the state after it, and have the spans of all other drivers
+pub withdrawal_renews : {E : Type 0} (db marked next : Trees) (t : Tables) (s : State) (n number : ℕ) (it : StoredEntry)
+    (rows : List StoredSpan) (r : Result (Unit {0}) E) → IsEntry s n number (Ok it) → HasTables db t → TablesRepresent t s
     → ((a : Tables) → HasTables db a → AreRowsApart (driver_rows n a.card_spans) → AreRowsApart (driver_rows n a.held) → AreRenewed a n number it.start it.past rows)
     → ((a : Tables) → HasTables db a → Unit {0} → HasTables marked (record a { entries = map (with_withdrawn n number) a.entries }))
     → ((a : Tables) → HasTables marked a → AreRowsApart (driver_rows n a.held)
     → OnOk r (HasTables next (record a { held = map (row_of n) rows ++ filter (λ r. not (is_row_near n it.start it.past r)) a.held })))
-    → OnOk r (Follows db next s (withdraw_step n number s).after)
-unfolding Represents IsEntry
-withdrawal_follows db marked next s n number it rows r (d, e, there) (t, stand, of) renew mark rewrite =
+    → OnOk r (IsRenewed n t next (withdraw_step n number s).after)
+unfolding IsEntry
+withdrawal_renews db marked next t s n number it rows r (d, e, there) stand of renew mark rewrite =
     let cards = card_apart t s n d of there.driver in
     let helds = held_apart t s n d of there.driver in
     let found = renew t stand cards helds in
     let spans = outside it.start it.past (map stored_span found.helds) ++ found.are_rows.inside in
     on_ok_weaker r (λ written.
-    subst (Follows db next s) (sym (marked_after n number s d there.driver e there.entry there.kept))
-    (renewed_follows db next n number it.start it.past spans t s (put (with_marked number d) s) stand of
+    subst (IsRenewed n t next) (sym (marked_after n number s d there.driver e there.entry there.kept))
+    (is_renewed next n number it.start it.past spans t (put (with_marked number d) s)
     (subst (λ (x : List SpanRow). HasTables next (renewed n number it.start it.past x t)) (found.are_rows.all n) written)
-    (renewed_is t s n number it rows d e of there found)
-    (is_another n d (with_marked number d) s there.driver (found_number n s d there.driver)
-    (mark_changes number d e there.entry there.kept)))) (rewrite _ (mark t stand tt) helds)
+    (renewed_is t s n number it rows d e of there found))) (rewrite _ (mark t stand tt) helds)

@@ -23,7 +23,8 @@ use Rattle.tacho_tables.specs.Tables.{Tables, is_row_near, is_kept_near, span_of
 use Rattle.tacho_reading.specs.Standing.{IsMark, activity_number, numbered_mark, driver_columns, entry_row, rows_of_entries, driver_entry_rows, row_span, span_row, spans_of, stored_span, IsReadNear, IsKeptNear, RowsRepresent, TablesRepresent}
 use Rattle.tacho_reading.proofs.RowLemmas.{eq_self, eq_not, eq_true, added_own, added_other, added_marks, near_spans}
 use Rattle.tacho_reading.proofs.NearRowLemmas.{permuted_gives}
-use Rattle.tacho_reading.proofs.StateLemmas.{SameOfDriver, found_number, found_of, put_is, rows_put}
+use Rattle.tacho_state.proofs.PutLemmas.{found_number}
+use Rattle.tacho_reading.proofs.StateLemmas.{SameOfDriver, found_of, put_is, rows_put}
 use Rattle.tacho_store.specs.After.{with_renewed}
 
 -- ---- rows that are not near a range

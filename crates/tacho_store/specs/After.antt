@@ -3,7 +3,7 @@ use Rattle.std.specs.Prelude.{ℕ, List, [], ◌∷◌, ◌++◌, map, filter, n
 use Rattle.tacho_time.specs.declared.span.Span.{Span}
 use Rattle.tacho_state.specs.State.{Entry}
 use Rattle.tacho_tables.specs.Rows.{DriverRow}
-use Rattle.tacho_tables.specs.Tables.{Tables, is_row_near, with_row_base, with_row_key, with_downloads, with_entries, with_withdrawn}
+use Rattle.tacho_tables.specs.Tables.{Tables, is_row_near, with_row_base, with_row_key, with_row_name, with_downloads, with_entries, with_withdrawn}
 use Rattle.tacho_reading.specs.Standing.{span_row, rows_of_entries}
 
 -- a driver is registered
@@ -17,6 +17,10 @@ with_rebased n base t = record t { drivers = map (with_row_base n base) t.driver
 -- a driver's key is changed
 abbrev pub with_rekeyed : ℕ → List ℕ → Tables → Tables
 with_rekeyed n key t = record t { drivers = map (with_row_key n key) t.drivers }
+
+-- a driver's name is changed
+abbrev pub with_renamed : ℕ → List ℕ → Tables → Tables
+with_renamed n name t = record t { drivers = map (with_row_name n name) t.drivers }
 
 -- a download is added: its row, the driver's count (the download's number), and the spans that downloads, or the driver, didn't have
 abbrev pub with_imported : ℕ → ℕ → ℕ → List ℕ → List Span → List Span → Tables → Tables

@@ -1,16 +1,23 @@
 -- Private to tacho_store: What a withdrawal consists of: the entry, and the rows that replace what was held near it.
-use Rattle.std.specs.Prelude.{◌≡◌, ◌⊎◌, ℕ, ◌++◌, All, List, map, false, Some, Result, Ok, Err}
+use Rattle.std.specs.Borrow.{MutBor}
+use Rattle.sqlite.specs.Held.{Held, state}
+use Rattle.sqlite.specs.State.{HasCleanDisk}
+use Rattle.sqlite.specs.Store.{Ghosts}
+use Rattle.sqlite.specs.Tree.{Trees}
+use Rattle.std.specs.Prelude.{◌≡◌, ◌≢◌, ◌⊎◌, ℕ, ◌++◌, All, List, filter, map, false, Some, OnOk, Result, Ok, Err}
 use Rattle.tacho_time.specs.declared.span.Span.{Span}
 use Rattle.tacho_time.specs.Spans.{Gives, IsCanonicalOf}
 use Rattle.tacho_line.specs.Line.{IsWithin}
 use Rattle.tacho_state.specs.declared.fault.StoreFault.{StoreFault}
 use Rattle.tacho_state.specs.Disjoint.{outside}
 use Rattle.tacho_state.specs.State.{Driver, Entry, State, driver_of, entry_from}
-use Rattle.tacho_state.specs.Steps.{withdraw_step}
+use Rattle.tacho_state.specs.Acts.{Answers}
+use Rattle.tacho_state.specs.Steps.{Turn, withdraw_step}
 use Rattle.tacho_tables.specs.declared.rows.StoredSpan.{StoredSpan}
 use Rattle.tacho_tables.specs.declared.rows.StoredEntry.{StoredEntry}
-use Rattle.tacho_tables.specs.Tables.{Tables, row_of, listed_entry, told_entry, with_withdrawn}
-use Rattle.tacho_reading.specs.Standing.{HaveNoLine, AreMinutes, IsFit, span_row, stored_span, entry_row, IsReadNear, IsKeptNear}
+use Rattle.tacho_tables.specs.Tables.{Tables, HasTables, IsArchive, is_of, row_of, listed_entry, told_entry, with_withdrawn}
+use Rattle.tacho_reading.specs.Standing.{HaveNoLine, AreMinutes, Represents, TablesRepresent, IsFit, span_row, stored_span, entry_row, IsReadNear, IsKeptNear}
+use Rattle.tacho_reading.specs.Calls.{Goes}
 use Rattle.tacho_reading.specs.Finding.{IsFindingFault}
 
 -- a driver's entry that is not withdrawn, as stored
@@ -44,3 +51,26 @@ pub record AreRenewed (t : Tables) (n number start past : ℕ) (rows : List Stor
   pub others_near : IsKeptNear (map (with_withdrawn n number) t.entries) n start past others
   pub helds_near : IsReadNear t.held n start past helds
   pub are_rows : AreRowsFor cards others helds start past rows
+
+-- both tables have the same rows of spans of one driver
+pub record HaveSameSpansOf (n : ℕ) (t u : Tables) : Type 0 where
+  pub card_spans : filter (is_of n) t.card_spans ≡ filter (is_of n) u.card_spans
+  pub held : filter (is_of n) t.held ≡ filter (is_of n) u.held
+
+-- what is stored now represents the state after, and has the spans of all drivers but one as the tables had them
+pub record IsRenewed (n : ℕ) (t : Tables) (next : Trees) (after : State) : Type 0 where
+  pub tables : Tables
+  pub stored : HasTables next tables
+  pub represent : TablesRepresent tables after
+  pub others : (j : ℕ) → j ≢ n → HaveSameSpansOf j t tables
+
+-- A step, within a transaction, that changes one driver's entries and spans. It can be followed by another.
+pub record Renews {S : Type 0} (g : Ghosts S) (n : ℕ) (old new : MutBor (Held S)) (result : Result (Unit {0}) StoreFault)
+    (step : State → Turn (Unit {0})) : Type 0 where
+  pub goes : Goes g old new result
+  pub schema : HasCleanDisk (state g new.now) → IsArchive (state g old.now).now → OnOk result (IsArchive (state g new.now).now)
+  pub answer : HasCleanDisk (state g new.now) → IsArchive (state g old.now).now
+      → (s : State) → Represents (state g old.now).now.trees s → Answers (λ (u : Unit {0}). tt) result (step s).answer
+  pub renewed : HasCleanDisk (state g new.now) → IsArchive (state g old.now).now
+      → (t : Tables) (s : State) → HasTables (state g old.now).now.trees t → TablesRepresent t s
+      → OnOk result (IsRenewed n t (state g new.now).now.trees (step s).after)

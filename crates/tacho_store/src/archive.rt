@@ -12,6 +12,7 @@ use crate::files::files;
 use crate::import::import;
 use crate::registration::register;
 use crate::rekey::rekey;
+use crate::rename::rename;
 use crate::withdrawal::withdraw;
 use sqlite::{Alter, Connection, MemStore, Transaction};
 use std::alloc::Global;
@@ -273,8 +274,14 @@ impl<S: Alter> Keeper for Archive<S> {
         enter(alloc, &mut self.conn, driver, lines)
     }
 
-    fn withdraw(&mut self, alloc: Global, driver: u32, number: u32) -> Result<(), StoreFault> {
-        withdraw(alloc, &mut self.conn, driver, number)
+    fn withdraw(
+        &mut self,
+        alloc: Global,
+        driver: u32,
+        first: u32,
+        last: u32,
+    ) -> Result<(), StoreFault> {
+        withdraw(alloc, &mut self.conn, driver, first, last)
     }
 
     fn rebase(&mut self, driver: u32, base: Day) -> Result<(), StoreFault> {
@@ -283,6 +290,10 @@ impl<S: Alter> Keeper for Archive<S> {
 
     fn rekey(&mut self, driver: u32, key: &str) -> Result<(), StoreFault> {
         rekey(&mut self.conn, driver, key)
+    }
+
+    fn rename(&mut self, driver: u32, name: &str) -> Result<(), StoreFault> {
+        rename(&mut self.conn, driver, name)
     }
 
     fn who(&mut self, key: &[u8]) -> Result<Option<u32>, StoreFault> {

@@ -10,7 +10,7 @@ ghost use Rattle.tacho_line.specs.Line.{AreGains, IsWithin};
 ghost use Rattle.tacho_card.specs.declared.file.Part.{Part as PartValue};
 ghost use Rattle.tacho_state.specs.Content.{FileTells, part_number};
 ghost use Rattle.tacho_state.specs.Disjoint.{AreInRange, near, outside};
-ghost use Rattle.tacho_state.specs.State.{Driver, Entry, State, AreFull, driver_of, driver_with_key, holding, entry_from, entered_spans, put, with_base, with_key, with_download, with_batch, with_marked};
+ghost use Rattle.tacho_state.specs.State.{Driver, Entry, State, AreFull, driver_of, driver_with_key, holding, entry_from, entered_spans, put, with_base, with_key, with_name, with_download, with_batch, with_marked};
 ghost use Rattle.tacho_state.specs.Runs.{Call, IsRun, AreAnswered, state_after};
 ghost use Rattle.tacho_state.specs.Steps.{Content, is_another, owner, rekey_step};
 ghost use Rattle.tacho_tables.specs.declared.rows.StoredSpan.{StoredSpan as StoredValue};
@@ -20,7 +20,7 @@ ghost use Rattle.tacho_reading.specs.Kept.{IsOfOne, LeavesOneOf};
 ghost use Rattle.tacho_reading.specs.Standing.{Represents, TablesRepresent, spans_of, driver_columns, stored_span, IsReadNear, IsKeptNear};
 ghost use Rattle.tacho_store.specs.Old.{OldDriver, OldState, old_entry_rows, with_office};
 ghost use Rattle.tacho_store.specs.Opening.{IsAdopted};
-ghost use Rattle.tacho_store.specs.After.{with_driver, with_rebased, with_rekeyed, with_imported, with_entered, with_renewed};
+ghost use Rattle.tacho_store.specs.After.{with_driver, with_rebased, with_rekeyed, with_renamed, with_imported, with_entered, with_renewed};
 
 use crate::archive::Archive;
 use sqlite::{Alter, Connection};
@@ -92,6 +92,12 @@ pub fn rekeyed_tables_stand()
     ensures { (t : Tables) (s : State) (n : ℕ) (key : List ℕ) (d : Driver) → TablesRepresent t s → driver_of n s ≡ Some d
         → is_another n (driver_with_key key s) ≡ false
         → TablesRepresent (with_rekeyed n key t) (put (with_key key d) s) }
+{}
+
+/// A change of a driver's name, on the tables.
+pub fn renamed_tables_stand()
+    ensures { (t : Tables) (s : State) (n : ℕ) (name : List ℕ) (d : Driver) → TablesRepresent t s → driver_of n s ≡ Some d
+        → TablesRepresent (with_renamed n name t) (put (with_name name d) s) }
 {}
 
 /// A key that was set is its driver's. The one before it is nobody's then, unless it is the same.

@@ -11,6 +11,7 @@ pub mod laws;
 mod news;
 mod registration;
 mod rekey;
+mod rename;
 mod withdrawal;
 
 pub use archive::{Archive, open_memory};

@@ -1,18 +1,18 @@
-ghost use Rattle.std.specs.Prelude.{◌≡◌, ◌++◌, map, All, Err, filter, not, false, IfOk, IfErr};
+ghost use Rattle.std.specs.Prelude.{◌≡◌, ◌≤◌, ◌++◌, map, All, Err, filter, not, false, IfOk, IfErr};
 ghost use Rattle.sqlite.specs.State.{HasCleanDisk};
 ghost use Rattle.sqlite.specs.Held.{state};
 ghost use Rattle.tacho_time.specs.OrMemory.{OrMemory};
 ghost use Rattle.tacho_time.specs.Spans.{Gives, IsCanonicalOf};
 ghost use Rattle.tacho_line.specs.Line.{IsWithin};
 ghost use Rattle.tacho_state.specs.Disjoint.{outside};
-ghost use Rattle.tacho_state.specs.Steps.{withdraw_step};
+ghost use Rattle.tacho_state.specs.Steps.{withdraw_range_step, withdraw_step};
 ghost use Rattle.tacho_tables.specs.Tables.{Tables, HasTables, is_row_near, row_of, with_withdrawn, IsArchive};
 ghost use Rattle.tacho_reading.specs.Standing.{stored_span, IsFit, HaveNoLine};
 ghost use Rattle.tacho_reading.specs.Calls.{Tells, Steps, ChangesWhere};
 ghost use Rattle.tacho_state.specs.Acts.{IsOfNoFile};
 ghost use Rattle.tacho_reading.specs.Kept.{ActsOn};
 ghost use Rattle.tacho_reading.specs.Apart.{AreRowsApart, driver_rows};
-ghost use Rattle.tacho_store.specs.Withdrawing.{IsEntry, AreRowsFor, HaveNoRows, AreRenewed};
+ghost use Rattle.tacho_store.specs.Withdrawing.{IsEntry, AreRowsFor, HaveNoRows, AreRenewed, Renews};
 
 use sqlite::{Alter, Connection, Transaction};
 use std::alloc::Global;
@@ -164,37 +164,56 @@ fn rewrite<S: Alter>(
     spans::insert_all(tx, SpanTable::Held, driver, rows)
 }
 
-/// Withdraws a driver's entry, within a transaction: S4, S7, S8.
-fn withdraw_in<S: Alter>(
+/// Withdraws one of a driver's entries, within a transaction: S4, S7, S8.
+fn withdraw_one<S: Alter>(
     alloc: Global,
     tx: &mut Transaction<'_, S>,
     driver: u32,
     number: u32,
 ) -> Result<(), StoreFault>
-    ensures { Steps S.Store tx.old.conn tx.new.conn result (λ _. tt) (withdraw_step driver number) }
+    ensures { Renews S.Store driver tx.old.conn tx.new.conn result (withdraw_step driver number) }
 {
     let entry = entry_with(tx, driver, number)?;
     let rows = mark(alloc, tx, driver, number, entry.start, entry.past)?;
     rewrite(tx, driver, entry.start, entry.past, &rows).map_err(store_fault)
 }
 
-/// Withdraws a driver's entry: S4, S7, S8.
+/// Withdraws a driver's entries from number `first` to `last`, within a transaction: S4, S7, S8.
+fn withdraw_in<S: Alter>(
+    alloc: Global,
+    tx: &mut Transaction<'_, S>,
+    driver: u32,
+    first: u32,
+    last: u32,
+) -> Result<(), StoreFault>
+    requires { first ≤ last }
+    ensures { Steps S.Store tx.old.conn tx.new.conn result (λ _. tt) (withdraw_range_step driver first last) }
+{
+    for number in first..last {
+        withdraw_one(alloc, tx, driver, number)?;
+    }
+    withdraw_one(alloc, tx, driver, last)
+}
+
+/// Withdraws a driver's entries from number `first` to `last`: S4, S7, S8.
 #[tactic(auto, using(crate::proofs::StepsLemmas::undone_keeps))]
 pub fn withdraw<S: Alter>(
     alloc: Global,
     conn: &mut Connection<S>,
     driver: u32,
-    number: u32,
+    first: u32,
+    last: u32,
 ) -> Result<(), StoreFault>
-    requires { conn.old.in_transaction ≡ false }
+    requires settled { conn.old.in_transaction ≡ false }
+    requires range { first ≤ last }
     ensures autocommit { conn.new.in_transaction ≡ false }
     ensures of_no_file { IsOfNoFile result }
-    ensures acts { ActsOn S.Store (λ _. tt) conn.old conn.new result (withdraw_step driver number) }
+    ensures acts { ActsOn S.Store (λ _. tt) conn.old conn.new result (withdraw_range_step driver first last) }
 {
     // For the proof alone: nothing is pending, so what is seen is what was committed.
     let _settled = conn.is_autocommit();
     let mut tx = conn.transaction();
-    match withdraw_in(alloc, &mut tx, driver, number) {
+    match withdraw_in(alloc, &mut tx, driver, first, last) {
         Ok(()) => match tx.commit() {
             Ok(()) => Ok(()),
             Err(_) => {
