@@ -307,7 +307,8 @@ fn withdraw_one_by_one<K: Keeper>(
     let held = Step::Holds(17, &[(0, 300, Activity::Rest)]);
     for place in 0..SAME {
         // Each number comes exactly once, because 387 and the count have no common divisor.
-        let withdraw = Step::Withdraw(17, place * 387 % SAME + 1, Ok(()));
+        let number = place * 387 % SAME + 1;
+        let withdraw = Step::Withdraw(17, number, number, Ok(()));
         take(rt, alloc, keeper, row, &[held, withdraw])?;
     }
     take(rt, alloc, keeper, row, &[Step::Holds(17, &[])])

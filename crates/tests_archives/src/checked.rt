@@ -28,7 +28,7 @@ const TWO_DRIVERS: &[Step] = &[
     Enter(18, NIGHT_HOURS, Ok((1, 1))),
     Adds(Caller::Office, Part::Both, &[ANNA, FIRST, DAY], 17, 1),
     Enter(17, TWO_NIGHTS, Ok((1, 2))),
-    Withdraw(17, 2, Ok(())),
+    Withdraw(17, 2, 2, Ok(())),
     Holds(
         17,
         &[

@@ -3,7 +3,8 @@
 use crate::step::Standing::{Kept, Withdrawn};
 use crate::step::Step::{
     Adds, Enter, Has, HasName, HasNoEntries, HasNoLine, HasNoName, HasNoReport, Holds, IsListed,
-    IsNotListed, IsOf, Lacks, Lists, Rebase, Refuses, Register, Rekey, Repeats, Reports, Withdraw,
+    IsNotListed, IsOf, Lacks, Lists, Rebase, Refuses, Register, Rekey, Rename, Repeats, Reports,
+    Withdraw,
 };
 use crate::step::{Code, Listed, Pieces, Step};
 use crate::stretch_rows::{
@@ -387,6 +388,67 @@ const DRIVERS_ARE_REKEYED: &[Step] = &[
     Adds(Caller::Driver(17), Part::Both, &[ANNA, FIRST, DAY], 17, 1),
 ];
 
+/// A driver gets another name: S4. Nothing else changes.
+const DRIVERS_ARE_RENAMED: &[Step] = &[
+    REGISTER_ANNA,
+    REGISTER_BERT,
+    Enter(17, NIGHT_HOURS, Ok((1, 1))),
+    HasName(17, "Driver 17"),
+    Rename(17, "Anna Lind", Ok(())),
+    HasName(17, "Anna Lind"),
+    HasName(18, "Driver 18"),
+    Rename(18, "Anna Lind", Ok(())),
+    Rename(19, "Anna Lind", Err(Code::S4)),
+    HasNoName(19, Code::S4),
+    IsOf(b"anna-key-1", Some(17)),
+    IsListed(17, 0, 0, 1),
+    Holds(17, &[(0, 300, Activity::Rest)]),
+    Holds(18, &[]),
+];
+
+/// A range of entries is withdrawn as a whole or not at all: S4, and S7 or S8 for the least number that can't be withdrawn.
+const RANGES_ARE_WITHDRAWN: &[Step] = &[
+    REGISTER_ANNA,
+    Enter(17, DAY_HOURS, Ok((1, 4))),
+    Withdraw(17, 3, 3, Ok(())),
+    Withdraw(17, 1, 4, Err(Code::S8)),
+    Withdraw(17, 4, 9, Err(Code::S7)),
+    Withdraw(17, 0, 4, Err(Code::S7)),
+    Withdraw(17, 2, 4_294_967_295, Err(Code::S8)),
+    Withdraw(18, 1, 4, Err(Code::S4)),
+    Lists(
+        17,
+        &[
+            (1, 0, 480, Activity::Rest, Kept),
+            (2, 480, 510, Activity::Work, Kept),
+            (3, 510, 1020, Activity::Drive, Withdrawn),
+            (4, 1440, 1920, Activity::Rest, Kept),
+        ],
+    ),
+    Holds(
+        17,
+        &[
+            (0, 480, Activity::Rest),
+            (480, 510, Activity::Work),
+            (1440, 1920, Activity::Rest),
+        ],
+    ),
+    Withdraw(17, 1, 2, Ok(())),
+    Holds(17, &[(1440, 1920, Activity::Rest)]),
+    Withdraw(17, 2, 4, Err(Code::S8)),
+    Withdraw(17, 4, 4, Ok(())),
+    Holds(17, &[]),
+    Lists(
+        17,
+        &[
+            (1, 0, 480, Activity::Rest, Withdrawn),
+            (2, 480, 510, Activity::Work, Withdrawn),
+            (3, 510, 1020, Activity::Drive, Withdrawn),
+            (4, 1440, 1920, Activity::Rest, Withdrawn),
+        ],
+    ),
+];
+
 /// An import is for the driver who owns the card: S4, S5.
 const A_CARD_HAS_ITS_OWNER: &[Step] = &[
     REGISTER_ANNA,
@@ -466,10 +528,10 @@ const HOURS_GIVE_WAY_TO_A_FILE: &[Step] = &[
         &[ANNA, SATURDAY],
         Code::S6(7680),
     ),
-    Withdraw(17, 1, Ok(())),
+    Withdraw(17, 1, 1, Ok(())),
     Adds(Caller::Office, Part::Both, &[ANNA, SATURDAY], 17, 1),
     Holds(17, THE_SATURDAY),
-    Withdraw(17, 1, Err(Code::S8)),
+    Withdraw(17, 1, 1, Err(Code::S8)),
     Holds(17, THE_SATURDAY),
     Lists(17, &[(1, 7200, 10080, Activity::Rest, Withdrawn)]),
 ];
@@ -488,7 +550,7 @@ const ENTRIES_OVERLAP: &[Step] = &[
         Ok((2, 1)),
     ),
     Holds(17, &[(0, 1080, Activity::Rest)]),
-    Withdraw(17, 1, Ok(())),
+    Withdraw(17, 1, 1, Ok(())),
     Holds(17, &[(360, 1080, Activity::Rest)]),
     Lists(
         17,
@@ -506,10 +568,10 @@ const A_FILE_OF_ENTERED_HOURS_IS_ADDED: &[Step] = &[
     Holds(17, THE_DAY),
     Adds(Caller::Office, Part::Both, &[ANNA, FIRST, DAY], 17, 1),
     Holds(17, THE_DAY),
-    Withdraw(17, 1, Ok(())),
-    Withdraw(17, 2, Ok(())),
-    Withdraw(17, 3, Ok(())),
-    Withdraw(17, 4, Ok(())),
+    Withdraw(17, 1, 1, Ok(())),
+    Withdraw(17, 2, 2, Ok(())),
+    Withdraw(17, 3, 3, Ok(())),
+    Withdraw(17, 4, 4, Ok(())),
     Holds(17, THE_DAY),
     Repeats(Caller::Office, Part::Both, &[ANNA, FIRST, DAY], 17),
     Lists(
@@ -576,7 +638,7 @@ const A_BATCH_THAT_CONTRADICTS_CHANGES_NOTHING: &[Step] = &[
             (2, 1080, 1200, Activity::Available, Kept),
         ],
     ),
-    Withdraw(17, 2, Ok(())),
+    Withdraw(17, 2, 2, Ok(())),
     Holds(17, THE_DAY),
     Enter(17, NIGHT_HOURS, Ok((3, 1))),
 ];
@@ -602,8 +664,8 @@ const HOURS_AGREE_WITH_A_FILE: &[Step] = &[
             (1380, 1920, Activity::Rest),
         ],
     ),
-    Withdraw(17, 1, Ok(())),
-    Withdraw(17, 3, Ok(())),
+    Withdraw(17, 1, 1, Ok(())),
+    Withdraw(17, 3, 3, Ok(())),
     Holds(
         17,
         &[
@@ -613,27 +675,27 @@ const HOURS_AGREE_WITH_A_FILE: &[Step] = &[
             (1440, 1920, Activity::Rest),
         ],
     ),
-    Withdraw(17, 2, Ok(())),
+    Withdraw(17, 2, 2, Ok(())),
     Holds(17, THE_DAY),
 ];
 
 /// Unknown entries and drivers: S4, S7.
 const UNKNOWN_ENTRIES_ARE_NOT_WITHDRAWN: &[Step] = &[
     Enter(17, NO_HOURS, Err(Code::S4)),
-    Withdraw(17, 1, Err(Code::S4)),
+    Withdraw(17, 1, 1, Err(Code::S4)),
     HasNoEntries(17, Code::S4),
     REGISTER_ANNA,
-    Withdraw(17, 0, Err(Code::S7)),
-    Withdraw(17, 1, Err(Code::S7)),
+    Withdraw(17, 0, 0, Err(Code::S7)),
+    Withdraw(17, 1, 1, Err(Code::S7)),
     Enter(17, NIGHT_HOURS, Ok((1, 1))),
-    Withdraw(17, 0, Err(Code::S7)),
-    Withdraw(17, 2, Err(Code::S7)),
-    Withdraw(17, 4_294_967_295, Err(Code::S7)),
+    Withdraw(17, 0, 0, Err(Code::S7)),
+    Withdraw(17, 2, 2, Err(Code::S7)),
+    Withdraw(17, 4_294_967_295, 4_294_967_295, Err(Code::S7)),
     Enter(18, NIGHT_HOURS, Err(Code::S4)),
     Enter(0, NIGHT_HOURS, Err(Code::S4)),
     Enter(4_294_967_295, NIGHT_HOURS, Err(Code::S4)),
-    Withdraw(18, 1, Err(Code::S4)),
-    Withdraw(4_294_967_295, 0, Err(Code::S4)),
+    Withdraw(18, 1, 1, Err(Code::S4)),
+    Withdraw(4_294_967_295, 0, 0, Err(Code::S4)),
     HasNoEntries(18, Code::S4),
     Lists(17, &[(1, 0, 300, Activity::Rest, Kept)]),
 ];
@@ -645,7 +707,7 @@ const ENTRIES_OF_TWO_DRIVERS_INTERLEAVE: &[Step] = &[
     Enter(17, NIGHT_HOURS, Ok((1, 1))),
     Lists(18, &[]),
     Holds(18, &[]),
-    Withdraw(18, 1, Err(Code::S7)),
+    Withdraw(18, 1, 1, Err(Code::S7)),
     Enter(
         18,
         "start,past,activity\n2024-03-04 00:00,2024-03-04 05:00,work\n",
@@ -656,7 +718,7 @@ const ENTRIES_OF_TWO_DRIVERS_INTERLEAVE: &[Step] = &[
         "start,past,activity\n2024-03-04 05:00,2024-03-04 06:00,available\n",
         Ok((2, 1)),
     ),
-    Withdraw(18, 1, Ok(())),
+    Withdraw(18, 1, 1, Ok(())),
     Lists(17, NIGHT_AND_WAIT),
     Lists(18, &[(1, 0, 300, Activity::Work, Withdrawn)]),
     Holds(18, &[]),
@@ -675,7 +737,7 @@ const DRIVERS_ARE_LISTED: &[Step] = &[
     Adds(Caller::Office, Part::Both, &[ANNA, FIRST, DAY], 17, 1),
     Enter(17, NIGHT_HOURS, Ok((1, 1))),
     Enter(17, NIGHT_HOURS, Ok((2, 1))),
-    Withdraw(17, 1, Ok(())),
+    Withdraw(17, 1, 1, Ok(())),
     Rebase(17, 14, Ok(())),
     IsListed(17, 14, 1, 2),
     IsListed(18, 7, 0, 0),
@@ -749,7 +811,7 @@ const A_WITHDRAWAL_CHANGES_THE_REPORT: &[Step] = &[
     ),
     Reports(17, 840, &[(Kind::B1, 750)]),
     Reports(18, 10_080, &[]),
-    Withdraw(17, 2, Ok(())),
+    Withdraw(17, 2, 2, Ok(())),
     Reports(17, 480, &[]),
     Enter(
         17,
@@ -760,7 +822,7 @@ const A_WITHDRAWAL_CHANGES_THE_REPORT: &[Step] = &[
 ];
 
 /// Each row, with its name.
-pub(crate) const ROWS: [(&str, &[Step]); 42] = [
+pub(crate) const ROWS: [(&str, &[Step]); 44] = [
     ("a day is added", A_DAY_IS_ADDED),
     ("empty data are repeated", EMPTY_DATA_ARE_REPEATED),
     (
@@ -805,6 +867,8 @@ pub(crate) const ROWS: [(&str, &[Step]); 42] = [
     ("what is unknown is not read", WHAT_IS_UNKNOWN_IS_NOT_READ),
     ("hours give way to a file", HOURS_GIVE_WAY_TO_A_FILE),
     ("entries overlap", ENTRIES_OVERLAP),
+    ("ranges are withdrawn", RANGES_ARE_WITHDRAWN),
+    ("drivers are renamed", DRIVERS_ARE_RENAMED),
     (
         "a file of entered hours is added",
         A_FILE_OF_ENTERED_HOURS_IS_ADDED,

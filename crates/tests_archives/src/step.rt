@@ -9,7 +9,7 @@ use tacho_card::{CardFault, Part};
 use tacho_line::Line;
 use tacho_rules::{Cause, Horizon, Kind, Report};
 use tacho_sheet::read_entries;
-use tacho_state::{Caller, Driver, Entered, Entry, Imported, Keeper, StoreFault, is_key};
+use tacho_state::{Caller, Driver, Entered, Entry, Imported, Keeper, StoreFault, is_key, is_name};
 use tacho_stretches::Stretch;
 use tacho_time::{Activity, Day, Mark, Minute, Span};
 
@@ -89,12 +89,14 @@ pub(crate) enum Step {
     Refuses(Caller, Part, Blocks, Code),
     /// The hours in a CSV text are entered for a driver. The answer is the first entry's number, and how many there are.
     Enter(u32, &'static str, Result<(u32, u32), Code>),
-    /// An entry of a driver is withdrawn.
-    Withdraw(u32, u32, Result<(), Code>),
+    /// The entries of a driver from one number to another are withdrawn.
+    Withdraw(u32, u32, u32, Result<(), Code>),
     /// A driver's base is set to another day.
     Rebase(u32, u8, Result<(), Code>),
     /// A driver's key is set to another one.
     Rekey(u32, &'static str, Result<(), Code>),
+    /// A driver's name is set to another one.
+    Rename(u32, &'static str, Result<(), Code>),
     /// A key is of this driver, or of none.
     IsOf(&'static [u8], Option<u32>),
     /// A driver is listed: their number, how many days after Monday their base is, and how many downloads and entries they have.
@@ -179,8 +181,9 @@ fn take_one<K: Keeper>(
             let answer = keeper.enter(alloc, driver, &lines);
             assert_answered(rt, place, answer, entered(wanted));
         }
-        Step::Withdraw(driver, number, wanted) => {
-            let answer = keeper.withdraw(alloc, driver, number);
+        Step::Withdraw(driver, first, last, wanted) => {
+            assert!(rt; first <= last, "{place}: the numbers");
+            let answer = keeper.withdraw(alloc, driver, first, last);
             assert_answered(rt, place, answer, wanted.map_err(refusal_of));
         }
         Step::Rebase(driver, day, wanted) => {
@@ -190,6 +193,11 @@ fn take_one<K: Keeper>(
         Step::Rekey(driver, key, wanted) => {
             assert!(rt; is_key(key), "{place}: the key");
             let answer = keeper.rekey(driver, key);
+            assert_answered(rt, place, answer, wanted.map_err(refusal_of));
+        }
+        Step::Rename(driver, name, wanted) => {
+            assert!(rt; is_name(name), "{place}: the name");
+            let answer = keeper.rename(driver, name);
             assert_answered(rt, place, answer, wanted.map_err(refusal_of));
         }
         reading => take_reading(rt, alloc, keeper, place, reading)?,

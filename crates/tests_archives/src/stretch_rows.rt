@@ -90,7 +90,7 @@ pub(crate) const GAPS_END_NEAR_A_MONDAY: &[Step] = &[
             (10_080, 10_800, Cause::Unknown, None, 0),
         ],
     ),
-    Withdraw(17, 2, Ok(())),
+    Withdraw(17, 2, 2, Ok(())),
     Stretches(17, &[(0, 720, Cause::Unknown, None, 0)]),
     Enter(
         17,
@@ -104,7 +104,7 @@ pub(crate) const GAPS_END_NEAR_A_MONDAY: &[Step] = &[
             (10_080, 10_800, Cause::Unknown, None, 0),
         ],
     ),
-    Withdraw(17, 3, Ok(())),
+    Withdraw(17, 3, 3, Ok(())),
     Enter(
         17,
         "start,past,activity\n2024-03-11 00:01,2024-03-11 12:00,rest\n",
@@ -213,8 +213,8 @@ pub(crate) const A_MONDAY_IS_HELD_AS_CREW: &[Step] = &[
             (20_160, 20_731, Cause::Unknown, None, 1),
         ],
     ),
-    Withdraw(17, 2, Ok(())),
-    Withdraw(17, 3, Ok(())),
+    Withdraw(17, 2, 2, Ok(())),
+    Withdraw(17, 3, 3, Ok(())),
     Enter(
         17,
         "start,past,activity\n2024-03-05 00:00,2024-03-11 00:00,rest\n",
@@ -265,7 +265,7 @@ pub(crate) const A_WITHDRAWAL_CHANGES_THE_STRETCHES: &[Step] = &[
         Ok((1, 4)),
     ),
     Stretches(17, &[(0, 10_771, Cause::Unknown, None, 1)]),
-    Withdraw(17, 2, Ok(())),
+    Withdraw(17, 2, 2, Ok(())),
     Stretches(
         17,
         &[
@@ -273,7 +273,7 @@ pub(crate) const A_WITHDRAWAL_CHANGES_THE_STRETCHES: &[Step] = &[
             (10_080, 10_771, Cause::Unknown, None, 1),
         ],
     ),
-    Withdraw(17, 1, Ok(())),
+    Withdraw(17, 1, 1, Ok(())),
     Stretches(
         17,
         &[
@@ -281,7 +281,7 @@ pub(crate) const A_WITHDRAWAL_CHANGES_THE_STRETCHES: &[Step] = &[
             (10_080, 10_771, Cause::Unknown, None, 1),
         ],
     ),
-    Withdraw(17, 4, Ok(())),
+    Withdraw(17, 4, 4, Ok(())),
     Stretches(
         17,
         &[
@@ -289,7 +289,7 @@ pub(crate) const A_WITHDRAWAL_CHANGES_THE_STRETCHES: &[Step] = &[
             (10_080, 10_500, Cause::Unknown, None, 0),
         ],
     ),
-    Withdraw(17, 3, Ok(())),
+    Withdraw(17, 3, 3, Ok(())),
     Stretches(17, &[(0, 0, Cause::Unknown, None, 0)]),
 ];
 
