@@ -1,8 +1,9 @@
 -- The arguments of a task are read as the kinds that the table of commands names.
-use Rattle.std.proofs.Common.{◌≡◌, ◌↔◌, ◌⊎◌, ◌∷◌, ℕ, List, [], Option, None, Some, Result, Ok, Err, ap, arith, inl, inr, map, refl}
+use Rattle.std.proofs.Common.{◌≡◌, ◌≢◌, ◌↔◌, ◌⊎◌, ◌∷◌, ◌∙◌, sym, ℕ, nat_lt, Bool, true, false, cond, List, [], Option, None, Some, Result, Ok, Err, ap, arith, inl, inr, map, refl}
 use Rattle.tacho_time.specs.Reading.{day_at, minute_at, month_at}
 use Rattle.tacho_time.specs.declared.fault.TimeFault.{TimeFault}
 use Rattle.std.specs.List.{AllByRecursion}
+use Rattle.std.proofs.lemmas.Bool.Decides.{nat_tests}
 use Rattle.tacho_card.specs.declared.file.Part.{Part}
 use Rattle.tacho_state.specs.declared.caller.Caller.{Caller}
 use Rattle.tacho_state.specs.declared.caller.Caller.TheVariants as caller
@@ -10,12 +11,12 @@ use Rattle.tacho_sheet.specs.Fault.{time_fault}
 use Rattle.tacho_sheet.specs.Number.{HasNoNumber, IsNumberText}
 use Rattle.tacho_sheet.specs.declared.fault.Fault.{Fault}
 use Rattle.tacho_sheet.specs.declared.fault.Fault.TheVariants as fault
-use Rattle.tacho_desk.specs.Arguments.{AreReadAsListed, IsFirstFault, IsReadAsListed}
+use Rattle.tacho_desk.specs.Arguments.{AreReadAsListed, IsBackward, IsFirstFault, IsReadAsListed}
 use Rattle.tacho_desk.specs.Commands.{Row, all_commands}
-use Rattle.tacho_desk.specs.Words.{ByDriver, ByNumber, HasNoDriver, IsDriver, IsTask, Wanted, by_part, by_time, minute_text_of, most_number, part_of}
+use Rattle.tacho_desk.specs.Words.{ByDriver, ByNumber, HasNoDriver, IsDriver, IsTask, IsWithdrawal, Wanted, by_part, by_time, day_if_named, minute_text_of, most_number, part_of}
 use Rattle.tacho_desk.specs.declared.argument.Argument.{Argument}
 use Rattle.tacho_desk.specs.declared.argument.Argument.TheVariants as argument
-use Rattle.tacho_desk.specs.declared.argument.Argument.TheVariants.{AnyDriver, Archive, Date, DateOfTime, Driver, Month, Number, Time}
+use Rattle.tacho_desk.specs.declared.argument.Argument.TheVariants.{AnyDate, AnyDriver, AnyLast, Archive, Date, DateOfTime, Driver, Month, Number, Time}
 use Rattle.tacho_desk.specs.declared.table.Act.{Act}
 use Rattle.tacho_desk.specs.declared.table.Act.TheVariants.{AtDesk}
 use Rattle.tacho_desk.specs.declared.task.Task.{Task}
@@ -28,9 +29,11 @@ abbrev kinds_of : Want → List Argument
 kinds_of want.Register = []
 kinds_of want.Import = argument.Part ∷ []
 kinds_of want.Enter = Driver ∷ []
-kinds_of want.Withdraw = Driver ∷ Number ∷ []
+kinds_of want.Withdraw = Driver ∷ Number ∷ AnyLast ∷ []
 kinds_of want.Base = Driver ∷ Date ∷ []
 kinds_of want.Key = Driver ∷ []
+kinds_of want.Name = Driver ∷ []
+kinds_of want.Form = Driver ∷ AnyDate ∷ []
 kinds_of (want.Reading text) = Driver ∷ []
 kinds_of (want.MonthReading text) = Driver ∷ Month ∷ []
 kinds_of want.File = Driver ∷ Number ∷ []
@@ -73,45 +76,87 @@ part_last : (make : Part → Task) (read : Option Part) (f : Fault) → (Err f �
 part_last make None f = grind arith
 part_last make (Some p) f = grind arith
 
-time_last : (make : ℕ → Task) (read : Result ℕ TimeFault) (f : Fault) → (Err f ≡ by_time read (λ n. Ok (make n)))
-    ↔ (((e : TimeFault) × (read ≡ Err e) × (f ≡ time_fault e)) ⊎ (((n : ℕ) × (read ≡ Ok n)) × ⊥))
+time_last : {A : Type 0} (make : A → Task) (read : Result A TimeFault) (f : Fault) → (Err f ≡ by_time read (λ n. Ok (make n)))
+    ↔ (((e : TimeFault) × (read ≡ Err e) × (f ≡ time_fault e)) ⊎ (((n : A) × (read ≡ Ok n)) × ⊥))
 time_last make (Ok n) f = grind arith
 time_last make (Err e) f = grind arith
+
+-- the last two: a number, and another one that isn't less, or none
+abbrev IsBadLast : List ℕ → List ℕ → Fault → Type 0
+IsBadLast word next f =
+    ((next ≢ []) × ((HasNoNumber most_number next × (f ≡ fault.Number)) ⊎ (IsBackward word next × (f ≡ fault.Order))))
+    ⊎ (((next ≡ []) ⊎ (((l : ℕ) × IsNumberText most_number next l) × ¬ IsBackward word next)) × ⊥)
+
+abbrev IsBadRange : List ℕ → List ℕ → Fault → Type 0
+IsBadRange word next f =
+    (HasNoNumber most_number word × (f ≡ fault.Number)) ⊎ (((k : ℕ) × IsNumberText most_number word k) × IsBadLast word next f)
+
+range_last : (n : ℕ) (word next : List ℕ) (f : Fault) → IsWithdrawal n word next (Err f) ↔ IsBadRange word next f
+range_last n word [] f = (to, from) where
+  to : IsWithdrawal n word [] (Err f) → IsBadRange word [] f
+  to (inl (none, e)) = inl (none, cc)
+  to (inr (k, is, e)) = cc
+
+  from : IsBadRange word [] f → IsWithdrawal n word [] (Err f)
+  from (inl (none, e)) = inl (none, ap Err e)
+  from (inr (number, inl (other, bad))) = absurd (other refl)
+  from (inr (number, inr (good, none))) = absurd none
+range_last n word (digit ∷ next) f = (to, from) where
+  to : IsWithdrawal n word (digit ∷ next) (Err f) → IsBadRange word (digit ∷ next) f
+  to (inl (none, e)) = inl (none, cc)
+  to (inr (k, is, inl (none, e))) = inr ((k, is), inl ((λ f. cc), inl (none, cc)))
+  to (inr (k, is, inr (l, also, e))) = inr ((k, is), inl ((λ f. cc), inr (go (nat_lt l k) refl e))) where
+    go : (b : Bool) → nat_lt l k ≡ b → Err f ≡ cond {A = Wanted} b (Err fault.Order) (Ok (task.WithdrawRange n (record { first = k; last = l })))
+        → IsBackward word (digit ∷ next) × (f ≡ fault.Order)
+    go true less e = ((k, l, is, also, grind (arith, nat_tests)), cc)
+    go false less e = cc
+
+  from : IsBadRange word (digit ∷ next) f → IsWithdrawal n word (digit ∷ next) (Err f)
+  from (inl (none, e)) = inl (none, ap Err e)
+  from (inr ((k, is), inl (other, inl (none, e)))) = inr (k, is, inl (none, ap Err e))
+  from (inr ((k, is), inl (other, inr ((first, last, a, b, less), e)))) =
+      let test : nat_lt last first ≡ true = grind (arith, nat_tests) in
+      inr (first, a, inr (last, b, ap Err e ∙ sym (ap (λ c. cond {A = Wanted} c (Err fault.Order) (Ok (task.WithdrawRange n (record { first = first; last = last })))) test)))
+  from (inr (number, inr (good, none))) = absurd none
 
 -- ---- all arguments
 
 -- a task is refused with the fault of the first bad one
-refused_first : (w : Want) (driver word time : List ℕ) (c : Caller) (f : Fault) → IsTask w c driver word time (Err f)
-    ↔ IsFirstFault (Archive ∷ kinds_of w) c (record { want = w; driver = driver; word = word; time = time }) f
-refused_first want.Register driver word time c f = after_archive (no_more task.Register f)
-refused_first want.Import driver word time c f = after_archive (part_last (λ p. task.Import c p) (part_of word) f)
-refused_first want.Enter driver word time c f =
+refused_first : (w : Want) (driver word next : List ℕ) (c : Caller) (f : Fault) → IsTask w c driver word next (Err f)
+    ↔ IsFirstFault (Archive ∷ kinds_of w) c (record { want = w; driver = driver; word = word; next = next }) f
+refused_first want.Register driver word next c f = after_archive (no_more task.Register f)
+refused_first want.Import driver word next c f = after_archive (part_last (λ p. task.Import c p) (part_of word) f)
+refused_first want.Enter driver word next c f =
     after_archive (driver_first (λ n w. w ≡ Ok (task.Enter n)) c driver f (λ n. no_more (task.Enter n) f))
-refused_first want.Withdraw driver word time c f =
-    after_archive (driver_first (λ n. ByNumber most_number word (λ k w. w ≡ Ok (task.Withdraw n k))) c driver f
-    (λ n. number_last (λ k. task.Withdraw n k) word f))
-refused_first want.Base driver word time c f =
+refused_first want.Withdraw driver word next c f =
+    after_archive (driver_first (λ n. IsWithdrawal n word next) c driver f (λ n. range_last n word next f))
+refused_first want.Base driver word next c f =
     after_archive (driver_first (λ n w. w ≡ by_time (day_at word) (λ d. Ok (task.Base n d))) c driver f
     (λ n. time_last (λ d. task.Base n d) (day_at word) f))
-refused_first want.Key driver word time c f =
+refused_first want.Key driver word next c f =
     after_archive (driver_first (λ n w. w ≡ Ok (task.Key n)) c driver f (λ n. no_more (task.Key n) f))
-refused_first (want.Reading text) driver word time c f =
+refused_first want.Name driver word next c f =
+    after_archive (driver_first (λ n w. w ≡ Ok (task.Name n)) c driver f (λ n. no_more (task.Name n) f))
+refused_first want.Form driver word next c f =
+    after_archive (driver_first (λ n w. w ≡ by_time (day_if_named word) (λ day. Ok (task.Form n day))) c driver f
+    (λ n. time_last (λ day. task.Form n day) (day_if_named word) f))
+refused_first (want.Reading text) driver word next c f =
     after_archive (driver_first (λ n w. w ≡ Ok (task.Reading n text)) c driver f (λ n. no_more (task.Reading n text) f))
-refused_first (want.MonthReading text) driver word time c f =
+refused_first (want.MonthReading text) driver word next c f =
     after_archive (driver_first (λ n w. w ≡ by_time (month_at word) (λ m. Ok (task.MonthReading n m text))) c driver f
     (λ n. time_last (λ m. task.MonthReading n m text) (month_at word) f))
-refused_first want.File driver word time c f =
+refused_first want.File driver word next c f =
     after_archive (driver_first (λ n. ByNumber most_number word (λ k w. w ≡ Ok (task.File n k))) c driver f
     (λ n. number_last (λ k. task.File n k) word f))
-refused_first want.Drivers [] word time caller.Office f = grind arith
-refused_first want.Drivers driver word time c f = grind arith
-refused_first want.Version driver word time c f = after_archive (no_more task.Version f)
-refused_first (want.MonthOfAll text) driver word time c f = after_archive (time_last (λ m. task.MonthOfAll m text) (month_at word) f)
-refused_first want.Forecast driver word time c f =
-    after_archive (after_archive (time_last (λ m. task.Forecast m) (minute_at (minute_text_of word time)) f))
-refused_first want.Ahead driver word time c f =
-    after_archive (driver_first (λ n w. w ≡ by_time (minute_at (minute_text_of word time)) (λ m. Ok (task.Ahead n m))) c driver f
-    (λ n. after_archive (time_last (λ m. task.Ahead n m) (minute_at (minute_text_of word time)) f)))
+refused_first want.Drivers [] word next caller.Office f = grind arith
+refused_first want.Drivers driver word next c f = grind arith
+refused_first want.Version driver word next c f = after_archive (no_more task.Version f)
+refused_first (want.MonthOfAll text) driver word next c f = after_archive (time_last (λ m. task.MonthOfAll m text) (month_at word) f)
+refused_first want.Forecast driver word next c f =
+    after_archive (after_archive (time_last (λ m. task.Forecast m) (minute_at (minute_text_of word next)) f))
+refused_first want.Ahead driver word next c f =
+    after_archive (driver_first (λ n w. w ≡ by_time (minute_at (minute_text_of word next)) (λ m. Ok (task.Ahead n m))) c driver f
+    (λ n. after_archive (time_last (λ m. task.Ahead n m) (minute_at (minute_text_of word next)) f)))
 
 -- ---- the table
 
@@ -125,7 +170,7 @@ kinds (AtDesk w) = Archive ∷ kinds_of w
 kinds act = []
 
 of_row : (row : Row) → listed row.act row.arguments ≡ kinds row.act → IsReadAsListed row
-of_row row same w is c f = (let here = rw is at same in rw here (refused_first w.want w.driver w.word w.time c f))
+of_row row same w is c f = (let here = rw is at same in rw here (refused_first w.want w.driver w.word w.next c f))
 
 of_rows : (rows : List Row) → map (λ row. listed row.act row.arguments) rows ≡ map (λ row. kinds row.act) rows
     → AllByRecursion IsReadAsListed rows

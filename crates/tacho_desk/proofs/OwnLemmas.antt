@@ -1,10 +1,10 @@
 -- Why a refusal changes nothing, and why a driver's own tasks depend on their rows alone.
-use Rattle.std.proofs.Common.{◌≡◌, ◌≢◌, ◌⊎◌, ◌∙◌, ◌*◌, ℕ, List, [], ◌∷◌, Option, None, Some, Result, Ok, Err}
+use Rattle.std.proofs.Common.{◌≡◌, ◌≢◌, ◌⊎◌, ◌∙◌, ◌*◌, ℕ, List, Option, None, Some, Result, Ok, Err}
 use Rattle.std.proofs.Common.{inl, inr, false, refl, sym, ap, subst, arith}
 use Rattle.tacho_card.specs.declared.fault.CardFault.{CardFault}
 use Rattle.tacho_card.specs.declared.file.Part.{Part}
 use Rattle.tacho_state.specs.Content.{FileTells, part_number}
-use Rattle.tacho_state.specs.State.{Driver, State, driver_of, held_spans, put}
+use Rattle.tacho_state.specs.State.{Driver, State, driver_of, held_spans}
 use Rattle.tacho_state.specs.Steps.{Content, Own, own_turn, import_by_driver, import_step}
 use Rattle.tacho_state.specs.declared.caller.Caller.TheVariants as caller
 use Rattle.tacho_desk.specs.Doing.{IsTextOf, in_words}
@@ -26,7 +26,8 @@ use Rattle.tacho_desk.specs.declared.want.MonthReading.TheVariants as month
 use Rattle.tacho_desk.specs.declared.want.Reading.{Reading}
 use Rattle.tacho_desk.specs.declared.want.Reading.TheVariants as reading
 use Rattle.tacho_desk.specs.Own.{IsOwnTask, OneAnswer, OthersStay, SameAnswers}
-use Rattle.tacho_desk.specs.Tasks.{Does, IsAheadOf, IsForecastOf, IsFormOf, OfReport, OfStretches, ShowsMonth, ShowsReading, imported_told, want_of}
+use Rattle.tacho_desk.specs.Tasks.{Does, IsAheadOf, IsForecastOf, IsFormOf, OfReport, OfStretches, ShowsForm, ShowsMonth, ShowsReading, cut_at, imported_told, want_of}
+use Rattle.tacho_state.proofs.PutLemmas.{found_number, put_found, put_other}
 use Rattle.tacho_desk.specs.Wants.{is_command}
 use Rattle.tacho_desk.specs.Told.{Answer, Long}
 use Rattle.tacho_desk.specs.declared.task.Task.{Task}
@@ -42,21 +43,6 @@ reads_same : (n : ℕ) (t : Task) → IsOwnTask n t → is_command (want_of t) �
     → (after ≡ s) × Does t input other answer other
 reads_same n t is reads input s other e answer after h = grind arith
 
--- the driver found by a number has this number
-own_number : (n : ℕ) (s : State) (d : Driver) → driver_of n s ≡ Some d → d.number ≡ n
-own_number n [] d e = cc
-own_number n (x ∷ s) d e = grind (arith, own_number n s d)
-
--- a driver who replaces one with the same number is found by this number
-put_own : (d : Driver) (s : State) (old : Driver) → driver_of d.number s ≡ Some old → driver_of d.number (put d s) ≡ Some d
-put_own d [] old e = cc
-put_own d (x ∷ s) old e = grind (arith, put_own d s old)
-
--- other drivers are found as before
-put_others : (m : ℕ) (d : Driver) (s : State) → m ≢ d.number → driver_of m (put d s) ≡ driver_of m s
-put_others m d [] h = refl
-put_others m d (x ∷ s) h = grind (arith, put_others m d s h)
-
 -- an import changes neither the driver's number
 import_number : (part : ℕ) (file : List ℕ) (content : Content) (d : Driver) (told : _)
     → import_by_driver part file content d ≡ Ok told → told.1.number ≡ d.number
@@ -64,13 +50,13 @@ import_number part file content d told e = grind arith
 
 import_others : (n m part : ℕ) (file : List ℕ) (content : Result Content CardFault) (s : State) → m ≢ n
     → driver_of m (import_step (Some n) part file content s).after ≡ driver_of m s
-import_others n m part file content s other = grind (arith, put_others, own_number, import_number)
+import_others n m part file content s other = grind (arith, put_other, found_number, import_number)
 
 own_same : {A : Type 0} (own : Own A) (n : ℕ) (s other : State) → driver_of n s ≡ driver_of n other
     → ((d : Driver) (told : A × Driver) → own d ≡ Ok told → told.1.number ≡ d.number)
     → ((own_turn own s (driver_of n s)).answer ≡ (own_turn own other (driver_of n other)).answer)
     × (driver_of n (own_turn own s (driver_of n s)).after ≡ driver_of n (own_turn own other (driver_of n other)).after)
-own_same own n s other e stays = grind (arith, put_own, own_number)
+own_same own n s other e stays = grind (arith, put_found, found_number)
 
 import_same : (n part : ℕ) (file : List ℕ) (content : Result Content CardFault) (s other : State) → driver_of n s ≡ driver_of n other
     → ((import_step (Some n) part file content s).answer ≡ (import_step (Some n) part file content other).answer)
@@ -145,10 +131,15 @@ module _ (one_content : (p : Part) (bytes : List ℕ) (a b : Result Content Card
       grind (arith, one d h.0 a b h.2)
 
   -- the form is unique, since the end of what is held is
-  one_form_of : IsOne IsFormOf
-  one_form_of d a b h k =
+  one_form_of : (before : Option ℕ) → IsOne (IsFormOf before)
+  one_form_of before d a b h k =
       let end : k.0 ≡ h.0 = one_end (held_spans d) (1440 * d.base) k.0 h.0 k.1 h.1 in
-      grind (arith, one_form (held_spans d) (1440 * d.base) h.0 a b h.2)
+      one_form (held_spans d) (1440 * d.base) (cut_at before h.0) a b h.2
+      (subst (λ (e : ℕ). IsForm (held_spans d) (1440 * d.base) (cut_at before e) b) end k.2)
+
+  one_form_answer : (before : Option ℕ) (n : ℕ) (s : State) (a b : Answer) (after left : State)
+      → ShowsForm before n s a after → ShowsForm before n s b left → a ≡ b
+  one_form_answer before n s a b after left h k = one_text_of _ (one_form_of before) _ a b h.0 k.0
 
   -- the text of the evidence for a month's breaches is unique
   one_why_of : (month : ℕ) → IsOne (λ d. OfStretches (λ stretches. IsMonthWhy (held_spans d) stretches month) d)
@@ -170,7 +161,6 @@ module _ (one_content : (p : Part) (bytes : List ℕ) (a b : Result Content Card
       one_text_of _ (one_of_stretches (λ d stretches text. text ≡ stretch_text stretches) (λ d stretches x y i j. i ∙ sym j)) _ a b h.0 k.0
   one_reading reading.Debts n s a b after left h k =
       one_text_of _ (one_of_stretches (λ d stretches text. text ≡ debt_text stretches) (λ d stretches x y i j. i ∙ sym j)) _ a b h.0 k.0
-  one_reading reading.Form n s a b after left h k = one_text_of _ one_form_of _ a b h.0 k.0
   one_reading reading.Files n s a b after left h k = h.0 ∙ sym k.0
 
   -- each text of a driver's month is unique
@@ -207,6 +197,7 @@ module _ (one_content : (p : Part) (bytes : List ℕ) (a b : Result Content Card
   one_answer n t theirs input s a b after left h k =
       let reading = λ (text : Reading) (n : ℕ). one_reading text n s a b after left in
       let of_month = λ (text : MonthReading) (month n : ℕ). one_month text month n s a b after left in
+      let form = λ (before : Option ℕ) (n : ℕ). one_form_answer before n s a b after left in
       let forecast = λ (minute n : ℕ). one_ahead_of minute (driver_of n s) a b in
       let content = λ (p : Part). one_content p input in
       grind arith

@@ -20,7 +20,7 @@ use Rattle.tacho_sheet.specs.Why.{AgreeOn, IsMonthWhy}
 use Rattle.tacho_sheet.proofs.ChartLemmas.{chart_same}
 use Rattle.tacho_sheet.proofs.MarkLemmas.{form_same, month_sheet_same}
 use Rattle.tacho_desk.specs.Doing.{IsTextOf}
-use Rattle.tacho_desk.specs.Tasks.{IsFormOf, OfReport, OfStretches}
+use Rattle.tacho_desk.specs.Tasks.{IsFormOf, OfReport, OfStretches, cut_at}
 use Rattle.tacho_desk.specs.Told.{Long}
 
 -- lines that agree between the bounds of a month agree in the month
@@ -60,15 +60,15 @@ abbrev pub AreEnds : List Judged → ℕ → ℕ → Type 0
 AreEnds stretches start past =
     (line : List Span) (base end : ℕ) → AreStretches line base stretches → IsEndOfHeld line base end → (start ≡ base) × (past ≡ end)
 
--- the form of a driver
-pub form_of : (o : Option Driver) (stretches : List Judged) (start past : ℕ) (line : List Span) (text : List ℕ)
+-- the form of a driver, as far as a day if there is one
+pub form_of : (before : Option ℕ) (o : Option Driver) (stretches : List Judged) (start past : ℕ) (line : List Span) (text : List ℕ)
     → reading_of {A = Unit {0}} (λ d. Ok tt) o ≡ Ok tt → IfSome o (λ d. AreStretches (held_spans d) (1440 * d.base) stretches)
-    → AreEnds stretches start past → IfSome o (λ d. AgreeWithin start past line (held_spans d)) → IsForm line start past text
-    → IsTextOf IsFormOf o (Ok (Long text))
-form_of None stretches start past line text there are ends within is = cc
-form_of (Some d) stretches start past line text there are ends within is =
+    → AreEnds stretches start past → IfSome o (λ d. AgreeWithin start (cut_at before past) line (held_spans d))
+    → IsForm line start (cut_at before past) text → IsTextOf (IsFormOf before) o (Ok (Long text))
+form_of before None stretches start past line text there are ends within is = cc
+form_of before (Some d) stretches start past line text there are ends within is =
     let both = ends (held_spans d) (1440 * d.base) are.end are are.is_end in
-    (are.end, are.is_end, rw (← both.1, ← both.0) (form_same line (held_spans d) start past text within is))
+    (are.end, are.is_end, rw (← both.1, ← both.0) (form_same line (held_spans d) start (cut_at before past) text within is))
 
 -- ---- the evidence for a month's breaches
 

@@ -2,13 +2,13 @@
 use Rattle.std.specs.Prelude.{ℕ, List, [], ◌∷◌, codes, map}
 use Rattle.tacho_desk.specs.declared.argument.Argument.{Argument}
 use Rattle.tacho_desk.specs.declared.argument.Argument.TheVariants as argument
-use Rattle.tacho_desk.specs.declared.argument.Argument.TheVariants.{AnyDriver, Archive, Count, Date, DateOfTime, Driver, Month, Number, Part, Port, Time}
+use Rattle.tacho_desk.specs.declared.argument.Argument.TheVariants.{AnyDate, AnyDriver, AnyLast, Archive, Count, Date, DateOfTime, Driver, Month, Number, Part, Port, Time}
 use Rattle.tacho_desk.specs.declared.table.Act.{Act}
 use Rattle.tacho_desk.specs.declared.table.Act.TheVariants.{AtDesk, Card, Check, Dump, Holder, Init, Listen, Migrate, Serve, Version}
 use Rattle.tacho_desk.specs.declared.table.Command.{Command}
 use Rattle.tacho_desk.specs.declared.want.MonthOfAll.TheVariants.{Incidents, Overview, Standing}
 use Rattle.tacho_desk.specs.declared.want.MonthReading.TheVariants.{Chart, Gaps, Sheet, Spans, Why}
-use Rattle.tacho_desk.specs.declared.want.Reading.TheVariants.{Breaches, Debts, Entries, Files, Form, Owed, Stretches}
+use Rattle.tacho_desk.specs.declared.want.Reading.TheVariants.{Breaches, Debts, Entries, Files, Owed, Stretches}
 use Rattle.tacho_desk.specs.declared.want.Want.TheVariants.{
   Ahead,
   Base,
@@ -16,10 +16,12 @@ use Rattle.tacho_desk.specs.declared.want.Want.TheVariants.{
   Enter,
   File,
   Forecast,
+  Form,
   Import,
   Key,
   MonthOfAll,
   MonthReading,
+  Name,
   Reading,
   Register,
   Withdraw,
@@ -32,7 +34,9 @@ name_of Part = codes "PART"
 name_of Driver = codes "DRIVER"
 name_of AnyDriver = codes "[DRIVER]"
 name_of Number = codes "NUMBER"
+name_of AnyLast = codes "[LAST]"
 name_of Date = codes "DATE"
+name_of AnyDate = codes "[DATE]"
 name_of Month = codes "MONTH"
 name_of DateOfTime = codes "DATE"
 name_of Time = codes "TIME"
@@ -65,9 +69,11 @@ all_commands =
     ∷ row (codes "register") (Archive ∷ []) (AtDesk Register) (codes "/drivers" ∷ [])
     ∷ row (codes "import") (Archive ∷ Part ∷ []) (AtDesk Import) (codes "/cards/{word}" ∷ codes "/me/cards/{word}" ∷ [])
     ∷ row (codes "enter") (Archive ∷ Driver ∷ []) (AtDesk Enter) (codes "/drivers/{driver}/entries" ∷ [])
-    ∷ row (codes "withdraw") (Archive ∷ Driver ∷ Number ∷ []) (AtDesk Withdraw) (codes "/drivers/{driver}/withdraw/{word}" ∷ [])
+    ∷ row (codes "withdraw") (Archive ∷ Driver ∷ Number ∷ AnyLast ∷ []) (AtDesk Withdraw)
+    (codes "/drivers/{driver}/withdraw/{word}" ∷ codes "/drivers/{driver}/withdraw/{word}/{next}" ∷ [])
     ∷ row (codes "base") (Archive ∷ Driver ∷ Date ∷ []) (AtDesk Base) (codes "/drivers/{driver}/base/{word}" ∷ [])
     ∷ row (codes "key") (Archive ∷ Driver ∷ []) (AtDesk Key) (codes "/drivers/{driver}/key" ∷ [])
+    ∷ row (codes "name") (Archive ∷ Driver ∷ []) (AtDesk Name) (codes "/drivers/{driver}/name" ∷ [])
     ∷ row (codes "spans") (Archive ∷ Driver ∷ Month ∷ []) (AtDesk (MonthReading Spans))
     (codes "/drivers/{driver}/spans/{word}" ∷ codes "/me/spans/{word}" ∷ [])
     ∷ row (codes "gaps") (Archive ∷ Driver ∷ Month ∷ []) (AtDesk (MonthReading Gaps))
@@ -92,12 +98,13 @@ all_commands =
     (codes "/drivers/{driver}/stretches" ∷ codes "/me/stretches" ∷ [])
     ∷ row (codes "debts") (Archive ∷ Driver ∷ []) (AtDesk (Reading Debts)) (codes "/drivers/{driver}/debts" ∷ codes "/me/debts" ∷ [])
     ∷ row (codes "ahead") (Archive ∷ Driver ∷ DateOfTime ∷ Time ∷ []) (AtDesk Ahead)
-    (codes "/drivers/{driver}/ahead/{word}/{time}" ∷ codes "/me/ahead/{word}/{time}" ∷ [])
-    ∷ row (codes "forecast") (Archive ∷ DateOfTime ∷ Time ∷ []) (AtDesk Forecast) (codes "/forecast/{word}/{time}" ∷ [])
+    (codes "/drivers/{driver}/ahead/{word}/{next}" ∷ codes "/me/ahead/{word}/{next}" ∷ [])
+    ∷ row (codes "forecast") (Archive ∷ DateOfTime ∷ Time ∷ []) (AtDesk Forecast) (codes "/forecast/{word}/{next}" ∷ [])
     ∷ row (codes "standing") (Archive ∷ Month ∷ []) (AtDesk (MonthOfAll Standing)) (codes "/standing/{word}" ∷ [])
     ∷ row (codes "overview") (Archive ∷ Month ∷ []) (AtDesk (MonthOfAll Overview)) (codes "/overview/{word}" ∷ [])
     ∷ row (codes "incidents") (Archive ∷ Month ∷ []) (AtDesk (MonthOfAll Incidents)) (codes "/incidents/{word}" ∷ [])
-    ∷ row (codes "form") (Archive ∷ Driver ∷ []) (AtDesk (Reading Form)) (codes "/drivers/{driver}/form" ∷ codes "/me/form" ∷ [])
+    ∷ row (codes "form") (Archive ∷ Driver ∷ AnyDate ∷ []) (AtDesk Form)
+    (codes "/drivers/{driver}/form" ∷ codes "/drivers/{driver}/form/{word}" ∷ codes "/me/form" ∷ codes "/me/form/{word}" ∷ [])
     ∷ row (codes "serve") (Archive ∷ argument.Key ∷ Port ∷ Count ∷ []) Serve []
     ∷ row (codes "listen") (Archive ∷ Port ∷ Count ∷ []) Listen []
     ∷ row (codes "version") [] Version (codes "/version" ∷ codes "/me/version" ∷ [])

@@ -1,6 +1,7 @@
 pub mod Told
 pub mod Doing
 pub mod Wants
+pub mod Range
 pub mod Version
 pub mod Tasks
 pub mod Words

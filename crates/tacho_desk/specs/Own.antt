@@ -13,6 +13,7 @@ abbrev pub IsOwnTask : ℕ → Task → Type 0
 IsOwnTask n (task.Import (caller.Driver m) part) = m ≡ n
 IsOwnTask n (task.Reading m text) = m ≡ n
 IsOwnTask n (task.MonthReading m month text) = m ≡ n
+IsOwnTask n (task.Form m before) = m ≡ n
 IsOwnTask n (task.File m number) = m ≡ n
 IsOwnTask n (task.Driver m) = m ≡ n
 IsOwnTask n (task.Ahead m minute) = m ≡ n

@@ -1,5 +1,5 @@
 -- Trusted: What each task answers, and the state of the archive after it.
-use Rattle.std.specs.Prelude.{◌≡◌, ◌⊎◌, ℕ, ◌*◌, ◌==◌, List, [], ◌∷◌, ◌++◌, Some, Option, None, Result, Ok, Err, codes, flat_map, if◌then◌else◌, length}
+use Rattle.std.specs.Prelude.{◌≡◌, ◌⊎◌, ℕ, ◌*◌, ◌==◌, min, List, [], ◌∷◌, ◌++◌, Some, Option, None, Result, Ok, Err, codes, flat_map, if◌then◌else◌, length}
 use Rattle.tacho_time.specs.declared.fault.TimeFault.TheVariants as time
 use Rattle.tacho_line.specs.declared.horizon.Horizon.{Horizon}
 use Rattle.tacho_card.specs.declared.fault.CardFault.{CardFault}
@@ -15,7 +15,7 @@ use Rattle.tacho_state.specs.Content.{FileTells, part_number}
 use Rattle.tacho_state.specs.Files.{files_reading}
 use Rattle.tacho_state.specs.Registration.{Registration}
 use Rattle.tacho_state.specs.State.{Driver, State, driver_of, held_spans}
-use Rattle.tacho_state.specs.Steps.{Content, register_step, import_step, enter_step, withdraw_step, rebase_step, rekey_step, entries_reading, file_reading}
+use Rattle.tacho_state.specs.Steps.{Content, register_step, import_step, enter_step, withdraw_range_step, rebase_step, rekey_step, rename_step, entries_reading, file_reading}
 use Rattle.tacho_state.specs.Summaries.{AreSummaries, Summary, driver_reading}
 use Rattle.tacho_state.specs.declared.caller.Caller.{Caller}
 use Rattle.tacho_state.specs.declared.entry.EntryLine.{EntryLine}
@@ -24,11 +24,11 @@ use Rattle.tacho_state.specs.declared.imported.Imported.{Imported}
 use Rattle.tacho_state.specs.declared.imported.Imported.TheVariants as imported
 use Rattle.tacho_sheet.specs.declared.fault.SheetFault.{SheetFault}
 use Rattle.tacho_sheet.specs.declared.fault.SheetFault.TheVariants as sheet
-use Rattle.tacho_sheet.specs.Done.{base_line, entered_text, imported_text, number_line}
+use Rattle.tacho_sheet.specs.Done.{base_line, entered_text, imported_text, number_line, withdrawn_text}
 use Rattle.tacho_sheet.specs.Driver.{IsDriverRead}
 use Rattle.tacho_sheet.specs.Entries.{IsRead, Lines}
 use Rattle.tacho_sheet.specs.Form.{IsForm}
-use Rattle.tacho_sheet.specs.Key.{IsKeyLine, IsKeyRead}
+use Rattle.tacho_sheet.specs.Value.{IsKeyLine, IsKeyRead, IsNameLine, IsNameRead}
 use Rattle.tacho_sheet.specs.Months.{overview_head, IsOverviewRow, incident_head, AreIncidentRows}
 use Rattle.tacho_sheet.specs.Forecast.{forecast_head, IsForecastRow}
 use Rattle.tacho_sheet.specs.Standing.{standing_head, IsStandingRow}
@@ -40,6 +40,7 @@ use Rattle.tacho_sheet.specs.Ahead.{IsAheadText, IsTooLate}
 use Rattle.tacho_sheet.specs.Why.{IsMonthWhy}
 use Rattle.tacho_desk.specs.Doing.{Doing, IsText, Lists, Refuses, Shows, Steps}
 use Rattle.tacho_sheet.specs.Fault.{card_fault, fault_of_store, sheet_fault, time_fault}
+use Rattle.tacho_desk.specs.Range.{Numbers}
 use Rattle.tacho_desk.specs.Version.{version_text}
 use Rattle.tacho_desk.specs.Told.{Answer, Told, Added, Line, Long, File}
 use Rattle.tacho_sheet.specs.declared.fault.Fault.{Fault}
@@ -92,7 +93,10 @@ abbrev pub Enters : ℕ → List ℕ → State → Doing
 Enters n input s answer after = (read : Lines) × OrCsv (IsRead input) read × EntersRead n s read answer after
 
 abbrev pub Withdraws : ℕ → ℕ → State → Doing
-Withdraws n number s = Steps (λ _. Line (number_line (codes "withdrawn ") number)) (withdraw_step n number s)
+Withdraws n number s = Steps (λ _. Line (number_line (codes "withdrawn ") number)) (withdraw_range_step n number number s)
+
+abbrev pub WithdrawsRange : ℕ → Numbers → State → Doing
+WithdrawsRange n range s = Steps (λ _. Line (withdrawn_text range.first range.last)) (withdraw_range_step n range.first range.last s)
 
 abbrev pub Rebases : ℕ → ℕ → State → Doing
 Rebases n day s = Steps (λ _. Line (base_line day)) (rebase_step n day s)
@@ -104,6 +108,14 @@ RekeysRead n s (Ok key) = Steps (λ _. Line (number_line (codes "key ") n)) (rek
 
 abbrev pub Rekeys : ℕ → List ℕ → State → Doing
 Rekeys n input s answer after = (read : Result (List ℕ) SheetFault) × IsKeyRead input read × RekeysRead n s read answer after
+
+-- the fault E9; or the step that sets the name
+abbrev pub RenamesRead : ℕ → State → Result (List ℕ) SheetFault → Doing
+RenamesRead n s (Err f) = Refuses (sheet_fault f) s
+RenamesRead n s (Ok name) = Steps (λ _. Line (number_line (codes "name ") n)) (rename_step n name s)
+
+abbrev pub Renames : ℕ → List ℕ → State → Doing
+Renames n input s answer after = (read : Result (List ℕ) SheetFault) × IsNameRead input read × RenamesRead n s read answer after
 
 -- ---- readings
 
@@ -117,9 +129,18 @@ OfReport Is d text =
 abbrev pub OfStretches : (List Judged → List ℕ → Type 0) → Driver → List ℕ → Type 0
 OfStretches Is d text = (stretches : List Judged) × AreStretches (held_spans d) (1440 * d.base) stretches × Is stretches text
 
--- the form for the minutes that the driver doesn't hold, from the base to the end of what they hold
-abbrev pub IsFormOf : Driver → List ℕ → Type 0
-IsFormOf d text = (end : ℕ) × IsEndOfHeld (held_spans d) (1440 * d.base) end × IsForm (held_spans d) (1440 * d.base) end text
+-- the end, or the first minute of a day if there is one and it is earlier
+abbrev pub cut_at : Option ℕ → ℕ → ℕ
+cut_at None end = end
+cut_at (Some day) end = min end (1440 * day)
+
+-- the form for the minutes that the driver doesn't hold, from the base to the end of what they hold, and before the day if there is one
+abbrev pub IsFormOf : Option ℕ → Driver → List ℕ → Type 0
+IsFormOf before d text =
+    (end : ℕ) × IsEndOfHeld (held_spans d) (1440 * d.base) end × IsForm (held_spans d) (1440 * d.base) (cut_at before end) text
+
+abbrev pub ShowsForm : Option ℕ → ℕ → State → Doing
+ShowsForm before n s = Shows (IsFormOf before) n s
 
 -- a text of a driver
 abbrev pub ShowsReading : Reading → ℕ → State → Doing
@@ -128,7 +149,6 @@ ShowsReading reading.Owed n s = Shows (OfReport (λ breaches debts horizon text.
 ShowsReading reading.Entries n s = Lists (λ entries. Long (flat_map entry_line entries)) s (entries_reading n s)
 ShowsReading reading.Stretches n s = Shows (OfStretches (λ stretches text. text ≡ stretch_text stretches)) n s
 ShowsReading reading.Debts n s = Shows (OfStretches (λ stretches text. text ≡ debt_text stretches)) n s
-ShowsReading reading.Form n s = Shows IsFormOf n s
 ShowsReading reading.Files n s = Lists (λ files. Long (flat_map file_line files)) s (files_reading n s)
 
 -- a text of a driver's month
@@ -207,8 +227,11 @@ want_of task.Register = want.Register
 want_of (task.Import caller part) = want.Import
 want_of (task.Enter n) = want.Enter
 want_of (task.Withdraw n number) = want.Withdraw
+want_of (task.WithdrawRange n range) = want.Withdraw
 want_of (task.Base n day) = want.Base
 want_of (task.Key n) = want.Key
+want_of (task.Name n) = want.Name
+want_of (task.Form n before) = want.Form
 want_of (task.Reading n text) = want.Reading text
 want_of (task.MonthReading n m text) = want.MonthReading text
 want_of (task.Ahead n minute) = want.Ahead
@@ -225,8 +248,11 @@ Does task.Register input s = Registers input s
 Does (task.Import caller part) input s = Imports caller part input s
 Does (task.Enter n) input s = Enters n input s
 Does (task.Withdraw n number) input s = Withdraws n number s
+Does (task.WithdrawRange n range) input s = WithdrawsRange n range s
 Does (task.Base n day) input s = Rebases n day s
 Does (task.Key n) input s = Rekeys n input s
+Does (task.Name n) input s = Renames n input s
+Does (task.Form n before) input s = ShowsForm before n s
 Does (task.Reading n text) input s = ShowsReading text n s
 Does (task.MonthReading n m text) input s = ShowsMonth text m n s
 Does (task.Ahead n minute) input s = ShowsAhead minute n s
@@ -239,13 +265,14 @@ Does (task.MonthOfAll m text) input s = ShowsMonthOfAll text m s
 
 -- ---- inputs
 
--- the input is valid: a text of CSV that can be read, a card file without a fault, a line with a key, or any input if the task doesn't read
--- it
+-- the input is valid: a text of CSV that can be read, a card file without a fault, a line with a key or a name, or any input if the task
+-- doesn't read it
 abbrev pub IsSound : Task → List ℕ → Type 0
 IsSound task.Register input = (r : Registration) × IsDriverRead input (Ok r)
 IsSound (task.Import caller part) input = (content : Content) × FileTells part input (Ok content)
 IsSound (task.Enter n) input = (lines : List EntryLine) × IsRead input (Ok lines)
 IsSound (task.Key n) input = (key : List ℕ) × IsKeyLine input key
+IsSound (task.Name n) input = (name : List ℕ) × IsNameLine input name
 IsSound t input = Unit {0}
 
 -- the input has this fault
@@ -254,4 +281,5 @@ IsFaulty task.Register input f = (e : SheetFault) × OrCsv (IsDriverRead input) 
 IsFaulty (task.Import caller part) input f = (e : CardFault) × FileTells part input (Err e) × (f ≡ card_fault e)
 IsFaulty (task.Enter n) input f = (e : SheetFault) × OrCsv (IsRead input) (Err e) × (f ≡ sheet_fault e)
 IsFaulty (task.Key n) input f = (e : SheetFault) × IsKeyRead input (Err e) × (f ≡ sheet_fault e)
+IsFaulty (task.Name n) input f = (e : SheetFault) × IsNameRead input (Err e) × (f ≡ sheet_fault e)
 IsFaulty t input f = ⊥

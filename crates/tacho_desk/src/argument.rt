@@ -11,8 +11,12 @@ pub enum Argument {
     AnyDriver,
     /// The number of an entry or of a card file.
     Number,
+    /// The number of the last entry of a range, or nothing.
+    AnyLast,
     /// A day.
     Date,
+    /// A day, or nothing.
+    AnyDate,
     /// A month.
     Month,
     /// The day of a minute. The next argument is its time.
@@ -41,7 +45,9 @@ impl Argument {
             Argument::Driver => "DRIVER",
             Argument::AnyDriver => "[DRIVER]",
             Argument::Number => "NUMBER",
+            Argument::AnyLast => "[LAST]",
             Argument::Date => "DATE",
+            Argument::AnyDate => "[DATE]",
             Argument::Month => "MONTH",
             Argument::DateOfTime => "DATE",
             Argument::Time => "TIME",

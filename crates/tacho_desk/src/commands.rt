@@ -2,17 +2,18 @@
 
 ghost use Rattle.std.specs.Prelude.{◌≡◌, false, true};
 ghost use Rattle.tacho_desk.specs.Doing.{AsksOnly, IsOfArchive, Serves};
-ghost use Rattle.tacho_desk.specs.Tasks.{Enters, Imports, IsFaulty, IsSound, Rebases, Registers, Rekeys, Withdraws, imported_told};
+ghost use Rattle.tacho_desk.specs.Tasks.{Enters, Imports, IsFaulty, IsSound, Rebases, Registers, Rekeys, Renames, Withdraws, WithdrawsRange, imported_told};
 ghost use Rattle.tacho_desk.specs.declared.task.Task.TheVariants as task;
 ghost use Rattle.tacho_desk.specs.Told.{answer_of, told_text};
 
-use crate::base::BaseDay;
+use crate::day::ReadDay;
+use crate::range::EntryRange;
 use crate::text::Text;
 use std::alloc::Global;
 use tacho_card::Part;
 use tacho_sheet::{
-    Fault, base_line, entered_line, imported_line, key_line, read_driver, read_entries,
-    read_key_line, registered_line, withdrawn_line,
+    Fault, base_line, entered_line, imported_line, key_line, name_line, read_driver, read_entries,
+    read_key_line, read_name_line, registered_line, withdrawn_line, withdrawn_range_line,
 };
 use tacho_state::{Caller, Imported, Keeper};
 
@@ -90,12 +91,28 @@ pub(crate) fn withdraw<K: Keeper>(
     ensures serves { Serves K.stands K.is_clean K.is_live K.leaves K.is_same keeper.old keeper.new true (answer_of result) (Withdraws driver number) }
     ensures archive { IsOfArchive false (answer_of result) }
 {
-    keeper.withdraw(alloc, driver, number)?;
+    keeper.withdraw(alloc, driver, number, number)?;
     Ok(Text::Line(withdrawn_line(number)))
 }
 
+/// Withdraws a range of a driver's entries, all of them or none.
+pub(crate) fn withdraw_range<K: Keeper>(
+    alloc: Global,
+    keeper: &mut K,
+    driver: u32,
+    range: EntryRange,
+) -> Result<Text, Fault>
+    ensures serves { Serves K.stands K.is_clean K.is_live K.leaves K.is_same keeper.old keeper.new true (answer_of result)
+        (WithdrawsRange driver range) }
+    ensures archive { IsOfArchive false (answer_of result) }
+{
+    let (first, last) = (range.first(), range.last());
+    keeper.withdraw(alloc, driver, first, last)?;
+    Ok(Text::Line(withdrawn_range_line(first, last)))
+}
+
 /// Sets a driver's base.
-pub(crate) fn rebase<K: Keeper>(keeper: &mut K, driver: u32, base: BaseDay) -> Result<Text, Fault>
+pub(crate) fn rebase<K: Keeper>(keeper: &mut K, driver: u32, base: ReadDay) -> Result<Text, Fault>
     ensures serves { Serves K.stands K.is_clean K.is_live K.leaves K.is_same keeper.old keeper.new true (answer_of result) (Rebases driver base) }
     ensures archive { IsOfArchive false (answer_of result) }
 {
@@ -113,4 +130,15 @@ pub(crate) fn rekey<K: Keeper>(keeper: &mut K, driver: u32, input: &[u8]) -> Res
     let key = read_key_line(input)?;
     keeper.rekey(driver, key)?;
     Ok(Text::Line(key_line(driver)))
+}
+
+/// Sets a driver's name, given as a line.
+pub(crate) fn rename<K: Keeper>(keeper: &mut K, driver: u32, input: &[u8]) -> Result<Text, Fault>
+    ensures serves { Serves K.stands K.is_clean K.is_live K.leaves K.is_same keeper.old keeper.new true (answer_of result) (Renames driver input.now) }
+    ensures asks { AsksOnly keeper.old keeper.new false (IsSound (task.Name driver) input.now) (IsFaulty (task.Name driver) input.now)
+        (answer_of result) }
+{
+    let name = read_name_line(input)?;
+    keeper.rename(driver, name)?;
+    Ok(Text::Line(name_line(driver)))
 }

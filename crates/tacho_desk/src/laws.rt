@@ -18,8 +18,8 @@ use tacho_stretches::laws::one_list_of_stretches;
 
 /// Arguments make one task, or have one first fault.
 pub fn one_task()
-    ensures { (want : Want) (caller : Caller) (driver word time : List ℕ) (a b : Wanted) → IsTask want caller driver word time a
-        → IsTask want caller driver word time b → a ≡ b }
+    ensures { (want : Want) (caller : Caller) (driver word next : List ℕ) (a b : Wanted) → IsTask want caller driver word next a
+        → IsTask want caller driver word next b → a ≡ b }
 {}
 
 /// The arguments of each command are read as the kinds that its row of the table names, from left to right: what is asked for is refused

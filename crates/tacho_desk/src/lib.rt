@@ -4,9 +4,10 @@
 
 mod all;
 mod argument;
-mod base;
 mod commands;
+mod day;
 pub mod laws;
+mod range;
 mod readings;
 mod release;
 mod table;
@@ -16,7 +17,8 @@ mod want;
 mod words;
 
 pub use argument::Argument;
-pub use base::BaseDay;
+pub use day::ReadDay;
+pub use range::EntryRange;
 pub use release::version_text;
 pub use table::{Act, Command, command_table};
 pub use tacho_sheet::Fault;

@@ -1,10 +1,11 @@
 //! Texts about a driver.
 
-ghost use Rattle.std.specs.Prelude.{false, true};
+ghost use Rattle.std.specs.Prelude.{◌≡◌, false, true};
 ghost use Rattle.tacho_desk.specs.Doing.{IsOfArchive, Serves};
-ghost use Rattle.tacho_desk.specs.Tasks.{ShowsAhead, ShowsDriver, ShowsDrivers, ShowsFile, ShowsMonth, ShowsReading, ShowsVersion};
+ghost use Rattle.tacho_desk.specs.Tasks.{ShowsAhead, ShowsDriver, ShowsDrivers, ShowsFile, ShowsForm, ShowsMonth, ShowsReading, ShowsVersion, cut_at};
 ghost use Rattle.tacho_desk.specs.Told.{answer_of};
 
+use crate::day::ReadDay;
 use crate::release::version_text;
 use crate::text::Text;
 use crate::want::{MonthReading, Reading};
@@ -38,14 +39,36 @@ pub(crate) fn show<K: Keeper>(
             &keeper.stretches(alloc, driver)?,
         )?)),
         Reading::Debts => Ok(Text::Long(debt_text(alloc, &keeper.stretches(alloc, driver)?)?)),
-        Reading::Form => {
-            let stretches = keeper.stretches(alloc, driver)?;
-            let (base, end) = range_of(&stretches);
-            let line = keeper.line_within(alloc, driver, base, end)?;
-            Ok(Text::Long(form_text(alloc, &line, base, end)?))
-        }
         Reading::Files => Ok(Text::Long(file_text(alloc, &keeper.files(alloc, driver)?)?)),
     }
+}
+
+/// The minute, or the first minute of a day if there is one and it is earlier.
+fn cut_at(end: Minute, before: Option<ReadDay>) -> Minute
+    ensures { result ≡ cut_at before end }
+{
+    match before {
+        Some(day) => Minute::new(end.number().min(day.first_minute().number())),
+        None => end,
+    }
+}
+
+/// Answers with the form for the minutes that a driver doesn't hold, as far as a day if one is named.
+pub(crate) fn form<K: Keeper>(
+    alloc: Global,
+    keeper: &mut K,
+    driver: u32,
+    before: Option<ReadDay>,
+) -> Result<Text, Fault>
+    ensures serves { Serves K.stands K.is_clean K.is_live K.leaves K.is_same keeper.old keeper.new false (answer_of result)
+        (ShowsForm before driver) }
+    ensures archive { IsOfArchive false (answer_of result) }
+{
+    let stretches = keeper.stretches(alloc, driver)?;
+    let (base, held) = range_of(&stretches);
+    let end = cut_at(held, before);
+    let line = keeper.line_within(alloc, driver, base, end)?;
+    Ok(Text::Long(form_text(alloc, &line, base, end)?))
 }
 
 /// Answers with a text about a driver's month. Evidence fails with S12 if what the archive holds can't be examined.

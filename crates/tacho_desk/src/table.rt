@@ -5,14 +5,15 @@ ghost use Rattle.tacho_desk.specs.Commands.{all_commands, row_of};
 
 use self::Act::{AtDesk, Card, Check, Dump, Holder, Init, Listen, Migrate, Serve, Version};
 use crate::argument::Argument::{
-    self, AnyDriver, Archive, Count, Date, DateOfTime, Driver, Month, Number, Part, Port, Time,
+    self, AnyDate, AnyDriver, AnyLast, Archive, Count, Date, DateOfTime, Driver, Month, Number,
+    Part, Port, Time,
 };
 use crate::want::MonthOfAll::{Incidents, Overview, Standing};
 use crate::want::MonthReading::{Chart, Gaps, Sheet, Spans, Why};
-use crate::want::Reading::{Breaches, Debts, Entries, Files, Form, Owed, Stretches};
+use crate::want::Reading::{Breaches, Debts, Entries, Files, Owed, Stretches};
 use crate::want::Want::{
-    self, Ahead, Base, Drivers, Enter, File, Forecast, Import, Key, MonthOfAll, MonthReading,
-    Reading, Register, Withdraw,
+    self, Ahead, Base, Drivers, Enter, File, Forecast, Form, Import, Key, MonthOfAll, MonthReading,
+    Name, Reading, Register, Withdraw,
 };
 
 /// What a command does.
@@ -40,7 +41,8 @@ pub enum Act {
     Version,
 }
 
-/// A command. A request asks for the same at its path, where a part in braces stands for the number of a driver or for the other argument.
+/// A command. A request asks for the same at its path, where a part in braces stands for the number of a driver, for the
+/// other argument, or for the one after it.
 /// The method is POST if the command changes the archive, and GET otherwise.
 #[derive(Clone, Copy)]
 pub struct Command {
@@ -56,7 +58,7 @@ pub struct Command {
 }
 
 /// The commands.
-static COMMANDS: [Command; 34] = [
+static COMMANDS: [Command; 35] = [
     Command {
         name: "dump",
         about: "Prints the spans in the value of an EF Driver_Activity_Data (0504), one per line",
@@ -122,10 +124,13 @@ static COMMANDS: [Command; 34] = [
     },
     Command {
         name: "withdraw",
-        about: "Withdraws an entry, which stays listed and gives no more hours",
-        arguments: &[Archive, Driver, Number],
+        about: "Withdraws an entry, or all from one number to another; they stay listed and give no more hours",
+        arguments: &[Archive, Driver, Number, AnyLast],
         act: AtDesk(Withdraw),
-        paths: &["/drivers/{driver}/withdraw/{word}"],
+        paths: &[
+            "/drivers/{driver}/withdraw/{word}",
+            "/drivers/{driver}/withdraw/{word}/{next}",
+        ],
     },
     Command {
         name: "base",
@@ -140,6 +145,13 @@ static COMMANDS: [Command; 34] = [
         arguments: &[Archive, Driver],
         act: AtDesk(Key),
         paths: &["/drivers/{driver}/key"],
+    },
+    Command {
+        name: "name",
+        about: "Sets a driver's name, the only line of its input",
+        arguments: &[Archive, Driver],
+        act: AtDesk(Name),
+        paths: &["/drivers/{driver}/name"],
     },
     Command {
         name: "spans",
@@ -238,8 +250,8 @@ static COMMANDS: [Command; 34] = [
         arguments: &[Archive, Driver, DateOfTime, Time],
         act: AtDesk(Ahead),
         paths: &[
-            "/drivers/{driver}/ahead/{word}/{time}",
-            "/me/ahead/{word}/{time}",
+            "/drivers/{driver}/ahead/{word}/{next}",
+            "/me/ahead/{word}/{next}",
         ],
     },
     Command {
@@ -247,7 +259,7 @@ static COMMANDS: [Command; 34] = [
         about: "Prints for all drivers, as CSV, the minute of the limit of each rule if they drive on from a minute, and what is used by then",
         arguments: &[Archive, DateOfTime, Time],
         act: AtDesk(Forecast),
-        paths: &["/forecast/{word}/{time}"],
+        paths: &["/forecast/{word}/{next}"],
     },
     Command {
         name: "standing",
@@ -272,10 +284,15 @@ static COMMANDS: [Command; 34] = [
     },
     Command {
         name: "form",
-        about: "Prints a driver's gaps as CSV, to fill in and enter",
-        arguments: &[Archive, Driver],
-        act: AtDesk(Reading(Form)),
-        paths: &["/drivers/{driver}/form", "/me/form"],
+        about: "Prints a driver's gaps as CSV, to fill in and enter; with a date, those before that day",
+        arguments: &[Archive, Driver, AnyDate],
+        act: AtDesk(Form),
+        paths: &[
+            "/drivers/{driver}/form",
+            "/drivers/{driver}/form/{word}",
+            "/me/form",
+            "/me/form/{word}",
+        ],
     },
     Command {
         name: "serve",

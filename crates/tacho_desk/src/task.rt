@@ -3,7 +3,8 @@ ghost use Rattle.tacho_desk.specs.Tasks.{Does, IsFaulty, IsSound, want_of};
 ghost use Rattle.tacho_desk.specs.Told.{answer_of};
 ghost use Rattle.tacho_desk.specs.Wants.{is_command, looks_ahead};
 
-use crate::base::BaseDay;
+use crate::day::ReadDay;
+use crate::range::EntryRange;
 use crate::text::Text;
 use crate::want::{MonthOfAll, MonthReading, Reading};
 use crate::{all, commands, readings};
@@ -32,14 +33,28 @@ pub enum Task {
         driver: u32,
         number: u32,
     },
+    /// Withdraws a range of a driver's entries, all of them or none.
+    WithdrawRange {
+        driver: u32,
+        range: EntryRange,
+    },
     /// Sets a driver's base.
     Base {
         driver: u32,
-        day: BaseDay,
+        day: ReadDay,
     },
     /// Sets a driver's key, given as a line.
     Key {
         driver: u32,
+    },
+    /// Sets a driver's name, given as a line.
+    Name {
+        driver: u32,
+    },
+    /// Reads the form for the minutes that a driver doesn't hold, as far as a day if one is named.
+    Form {
+        driver: u32,
+        before: Option<ReadDay>,
     },
     /// Reads a text about a driver.
     Reading {
@@ -100,8 +115,13 @@ pub fn carry_out<K: Keeper>(
         Task::Import { caller, part } => commands::import(alloc, keeper, caller, part, input),
         Task::Enter { driver } => commands::enter(alloc, keeper, driver, input),
         Task::Withdraw { driver, number } => commands::withdraw(alloc, keeper, driver, number),
+        Task::WithdrawRange { driver, range } => {
+            commands::withdraw_range(alloc, keeper, driver, range)
+        }
         Task::Base { driver, day } => commands::rebase(keeper, driver, day),
         Task::Key { driver } => commands::rekey(keeper, driver, input),
+        Task::Name { driver } => commands::rename(keeper, driver, input),
+        Task::Form { driver, before } => readings::form(alloc, keeper, driver, before),
         Task::Reading { driver, reading } => readings::show(alloc, keeper, driver, reading),
         Task::MonthReading {
             driver,

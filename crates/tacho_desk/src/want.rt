@@ -7,14 +7,18 @@ pub enum Want {
     Import,
     /// Enter a driver's hours, given as CSV.
     Enter,
-    /// Withdraw a driver's entry.
+    /// Withdraw a driver's entry, or a range of entries.
     Withdraw,
     /// Set a driver's base.
     Base,
     /// Set a driver's key, given as a line.
     Key,
+    /// Set a driver's name, given as a line.
+    Name,
     /// Read a text about a driver.
     Reading(Reading),
+    /// Read the form for the minutes that a driver doesn't hold, to be filled in and entered.
+    Form,
     /// Read a text about a driver's month.
     MonthReading(MonthReading),
     /// Read a text about a month of all drivers.
@@ -44,8 +48,6 @@ pub enum Reading {
     Stretches,
     /// The debts of each stretch, and what isn't examined.
     Debts,
-    /// CSV of the minutes that aren't held, to be filled in and entered.
-    Form,
     /// The card files, with the SHA-256 digest of each.
     Files,
 }
@@ -81,13 +83,13 @@ impl Want {
     ghost use Rattle.std.specs.Prelude.{◌≡◌};
     ghost use Rattle.tacho_desk.specs.Wants.{is_command, takes_input as has_input};
 
-    /// Whether the task has an input: a text of CSV, a card file or a key.
+    /// Whether the task has an input: a text of CSV, a card file, a key or a name.
     pub fn takes_input(self) -> bool
         ensures { result ≡ has_input self }
     {
         matches!(
             self,
-            Want::Register | Want::Import | Want::Enter | Want::Key
+            Want::Register | Want::Import | Want::Enter | Want::Key | Want::Name
         )
     }
 
@@ -105,8 +107,8 @@ pub struct Wish<'a> {
     pub want: Want,
     /// The driver's number. It is ignored if a driver asks.
     pub driver: &'a [u8],
-    /// The other argument: a part of a card file, a number, a day or a month.
+    /// The other argument: a part of a card file, a number, a day or a month. An empty text if there is none.
     pub word: &'a [u8],
-    /// The time of a minute, if `word` is its day.
-    pub time: &'a [u8],
+    /// The argument after `word`: the time of a minute, or the last number of a range. An empty text if there is none.
+    pub next: &'a [u8],
 }

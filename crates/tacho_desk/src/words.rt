@@ -3,9 +3,10 @@ ghost use Rattle.tacho_time.specs.Reading.{minute_at};
 ghost use Rattle.tacho_sheet.specs.Number.{HasNoNumber, IsNumberText};
 ghost use Rattle.tacho_desk.specs.Tasks.{want_of};
 ghost use Rattle.tacho_desk.specs.declared.task.Task.TheVariants as task;
-ghost use Rattle.tacho_desk.specs.Words.{HasNoDriver, IsDriver, IsDriversTask, IsTask, by_part, minute_text_of, most_number, part_of as part_named};
+ghost use Rattle.tacho_desk.specs.Words.{HasNoDriver, IsDriver, IsDriversTask, IsTask, IsWithdrawal, by_part, day_if_named, minute_text_of, most_number, part_of as part_named};
 
-use crate::base::BaseDay;
+use crate::day::ReadDay;
+use crate::range::EntryRange;
 use crate::task::Task;
 use crate::want::{Want, Wish};
 use arrayvec::ArrayVec;
@@ -91,6 +92,33 @@ fn import_of(caller: Caller, text: &[u8]) -> Result<Task, Fault>
     }
 }
 
+/// The withdrawal of the entry with the first number; if there is a second one, of all entries from the first to it. Fails with N2 if the
+/// second is less than the first.
+fn withdrawal_of(driver: u32, first: &[u8], last: &[u8]) -> Result<Task, Fault>
+    ensures task { IsWithdrawal driver first.now last.now result }
+    ensures want { IfOk result (λ task. want_of task ≡ Want.Withdraw) }
+{
+    let number = number_of(first)?;
+    if last.is_empty() {
+        return Ok(Task::Withdraw { driver, number });
+    }
+    let last = number_of(last)?;
+    match EntryRange::new(number, last) {
+        Some(range) => Ok(Task::WithdrawRange { driver, range }),
+        None => Err(Fault::Order),
+    }
+}
+
+/// The day with this text, or none if the text is empty: Z1 to Z3.
+fn day_if_named(text: &[u8]) -> Result<Option<ReadDay>, TimeFault>
+    ensures { result ≡ day_if_named text.now }
+{
+    if text.is_empty() {
+        return Ok(None);
+    }
+    Ok(Some(ReadDay::read(text)?))
+}
+
 /// The list of all drivers, if the office names none. Otherwise what is listed of one driver.
 fn drivers_of(caller: Caller, text: &[u8]) -> Result<Task, Fault>
     ensures task { IsDriversTask caller text.now result }
@@ -104,16 +132,16 @@ fn drivers_of(caller: Caller, text: &[u8]) -> Result<Task, Fault>
 }
 
 /// Makes the task that a caller asks for. Reads its arguments from left to right: the driver's number (N1), which only the office gives, then
-/// a part (P1), the number of an entry or a download (N1), a day, a month or a minute (Z1 to Z3).
+/// a part (P1), the number of an entry or a download, or those of a range of entries (N1, N2), a day, a month or a minute (Z1 to Z3).
 pub fn task_of(caller: Caller, wish: Wish<'_>) -> Result<Task, Fault>
-    ensures task { IsTask wish.entry.want caller wish.entry.driver.now wish.entry.word.now wish.entry.time.now result }
+    ensures task { IsTask wish.entry.want caller wish.entry.driver.now wish.entry.word.now wish.entry.next.now result }
     ensures want { IfOk result (λ task. want_of task ≡ wish.entry.want) }
 {
     let Wish {
         want,
         driver,
         word,
-        time,
+        next,
     } = wish;
     match want {
         Want::Register => Ok(Task::Register),
@@ -124,17 +152,25 @@ pub fn task_of(caller: Caller, wish: Wish<'_>) -> Result<Task, Fault>
         }
         Want::Withdraw => {
             let driver = driver_of(caller, driver)?;
-            let number = number_of(word)?;
-            Ok(Task::Withdraw { driver, number })
+            withdrawal_of(driver, word, next)
         }
         Want::Base => {
             let driver = driver_of(caller, driver)?;
-            let day = BaseDay::read(word)?;
+            let day = ReadDay::read(word)?;
             Ok(Task::Base { driver, day })
         }
         Want::Key => {
             let driver = driver_of(caller, driver)?;
             Ok(Task::Key { driver })
+        }
+        Want::Name => {
+            let driver = driver_of(caller, driver)?;
+            Ok(Task::Name { driver })
+        }
+        Want::Form => {
+            let driver = driver_of(caller, driver)?;
+            let before = day_if_named(word)?;
+            Ok(Task::Form { driver, before })
         }
         Want::Reading(reading) => {
             let driver = driver_of(caller, driver)?;
@@ -158,11 +194,11 @@ pub fn task_of(caller: Caller, wish: Wish<'_>) -> Result<Task, Fault>
         Want::Version => Ok(Task::Version),
         Want::Ahead => {
             let driver = driver_of(caller, driver)?;
-            let minute = minute_of(word, time)?;
+            let minute = minute_of(word, next)?;
             Ok(Task::Ahead { driver, minute })
         }
         Want::Forecast => {
-            let minute = minute_of(word, time)?;
+            let minute = minute_of(word, next)?;
             Ok(Task::Forecast { minute })
         }
         Want::MonthOfAll(reading) => {
