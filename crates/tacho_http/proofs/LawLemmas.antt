@@ -69,7 +69,7 @@ module _ (Its : Task → Type 0) (office : List ℕ) (c : Caller) (rest : List �
   }
 
   -- with its body, which is long enough in each state or in none
-  run_comes : (w : Wish) → ((t : Task) → IsTask w.want c w.driver w.word w.time (Ok t) → Its t) → (n : ℕ) → Runs office w n c rest s reply after
+  run_comes : (w : Wish) → ((t : Task) → IsTask w.want c w.driver w.word w.next (Ok t) → Its t) → (n : ℕ) → Runs office w n c rest s reply after
       → ComesTo Its (Runs office w n c rest)
   run_comes w its n (inl h) = record {
     act = Err (reply_of_status status.BadRequest);
@@ -89,21 +89,21 @@ module _ (Its : Task → Type 0) (office : List ℕ) (c : Caller) (rest : List �
         same = λ s reply after. (
           (λ k. elim k [
             | inl x ↦ (let long = h.0 in let short = x.0 in absurd (omega arith))
-            | inr x ↦ (task.same s reply after).0 (rw (task_once w.want c w.driver w.word w.time x.1.0 wanted x.1.1 is) at x.1.2)
+            | inr x ↦ (task.same s reply after).0 (rw (task_once w.want c w.driver w.word w.next x.1.0 wanted x.1.1 is) at x.1.2)
           ]),
           (λ k. inr (h.0, (wanted, is, (task.same s reply after).1 k))),
         );
       }
 
   -- with the length of its body
-  body_comes : (w : Wish) → ((t : Task) → IsTask w.want c w.driver w.word w.time (Ok t) → Its t) → (length : Result ℕ Status)
+  body_comes : (w : Wish) → ((t : Task) → IsTask w.want c w.driver w.word w.next (Ok t) → Its t) → (length : Result ℕ Status)
       → WithBody office length w c rest s reply after → ComesTo Its (WithBody office length w c rest)
   body_comes w its (Err refusal) h = told (reply_of_status refusal)
   body_comes w its (Ok n) h = run_comes w its n h
 
   -- with what it asks for
   wish_comes : (h : RequestHead) (found : Result Wish Status)
-      → ((w : Wish) (t : Task) → found ≡ Ok w → IsTask w.want c w.driver w.word w.time (Ok t) → Its t)
+      → ((w : Wish) (t : Task) → found ≡ Ok w → IsTask w.want c w.driver w.word w.next (Ok t) → Its t)
       → WithWish office found c h rest s reply after → ComesTo Its (WithWish office found c h rest)
   wish_comes h (Err refusal) its does = told (reply_of_status refusal)
   wish_comes h (Ok w) its does = body_comes w (λ t. its w t refl) (body_of h w.want) does
@@ -147,10 +147,10 @@ keeps_503 refusals office input s _ _ r e = refl
 -- ---- a driver's requests are for the driver's own tasks
 
 -- what a driver may ask for makes a task of that driver
-task_is_own : (w : Want) (n : ℕ) (driver word time : List ℕ) (t : Task) → is_own w ≡ true
-    → IsTask w (caller.Driver n) driver word time (Ok t) → IsOwnTask n t
-task_is_own w n driver word time (task.Import c p) own is = grind arith
-task_is_own w n driver word time t own is = grind arith
+task_is_own : (w : Want) (n : ℕ) (driver word next : List ℕ) (t : Task) → is_own w ≡ true
+    → IsTask w (caller.Driver n) driver word next (Ok t) → IsOwnTask n t
+task_is_own w n driver word next (task.Import c p) own is = grind arith
+task_is_own w n driver word next t own is = grind arith
 
 -- ---- isolation
 
@@ -162,7 +162,7 @@ module _ (own_wants : OwnWants) (office input : List ℕ) (n : ℕ) where
       → (reply : Reply) (after : State) → ByKeys office (key_of h) h rest s reply after ↔ Acts act s reply after)
   comes_to s from h rest begins reply after does =
       let comes = wish_comes (IsOwnTask n) office (caller.Driver n) rest s reply after h (wish_of asker.Driver h.method h.target)
-      (λ w t found is. task_is_own w.want n w.driver w.word w.time t (own_wants h.method h.target w found) is)
+      (λ w t found is. task_is_own w.want n w.driver w.word w.next t (own_wants h.method h.target w found) is)
       (rw (from.has h rest begins, from.other, from.own) at does) in (
         comes.act,
         comes.its,

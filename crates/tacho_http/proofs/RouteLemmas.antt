@@ -12,7 +12,7 @@ use Rattle.tacho_desk.specs.Commands.{all_commands}
 use Rattle.tacho_message.specs.declared.method.Method.TheVariants.{Get, Post}
 use Rattle.tacho_http.specs.declared.places.Place.{Place}
 use Rattle.tacho_http.specs.Offers.{offers_in}
-use Rattle.tacho_http.specs.Routes.{Offer, Rows, driver_part, last_part, named_by, routes, with_offers, with_read, word_part}
+use Rattle.tacho_http.specs.Routes.{Offer, Rows, driver_part, named_by, next_part, routes, with_offers, with_read, word_part}
 
 -- a route is added if its text is valid
 pub added : (rows : Rows) {after : Rows} (place : Place) (read : Result Scan InsertError) {result : Result (Unit {0}) InsertError}
@@ -71,8 +71,8 @@ pub of_place : (path : List ℕ) (place : Place) (found : Option (RouteOf Place)
       wish = record {
         want = place.want;
         driver = driver_part path;
-        word = word_part place.want path;
-        time = last_part path;
+        word = word_part place.ending path;
+        next = next_part place.ending path;
       };
     })
 of_place path place None e = cc

@@ -7,7 +7,7 @@ use Rattle.tacho_desk.specs.declared.table.Act.{Act}
 use Rattle.tacho_desk.specs.declared.want.Want.{Want}
 use Rattle.tacho_desk.specs.declared.want.Want.TheVariants as want
 use Rattle.tacho_desk.specs.declared.table.Act.TheVariants.{AtDesk, Version}
-use Rattle.tacho_http.specs.Routes.{Offer}
+use Rattle.tacho_http.specs.Routes.{Offer, ending_of_route}
 use Rattle.tacho_http.specs.declared.places.Asker.{Asker}
 use Rattle.tacho_http.specs.declared.places.Asker.TheVariants.{Driver, Office}
 
@@ -16,7 +16,7 @@ abbrev pub asker_of_path : List ℕ → Asker
 asker_of_path path = if bytes_eq (codes "/me/") (take 4 path) then Driver else Office
 
 abbrev pub offer_at : Want → List ℕ → Offer
-offer_at w path = (path, record { asker = asker_of_path path; want = w })
+offer_at w path = (path, record { asker = asker_of_path path; want = w; ending = ending_of_route path })
 
 -- what is asked for by a request for what a command does
 abbrev pub want_of : Act → Option Want

@@ -67,6 +67,7 @@ store_status store.Memory = status.Unavailable
 abbrev pub fault_status : Fault → Status
 fault_status (fault.Time f) = status.BadRequest
 fault_status fault.Number = status.BadRequest
+fault_status fault.Order = status.BadRequest
 fault_status fault.Part = status.BadRequest
 fault_status fault.TooLarge = status.PayloadTooLarge
 fault_status (fault.Card f) = status.UnprocessableEntity
@@ -86,7 +87,7 @@ fault_reply f = line_reply (fault_status f) f
 -- the type of what a task answers
 abbrev pub media_of : Want → MediaType
 media_of want.File = media.Octets
-media_of (want.Reading reading.Form) = media.Csv
+media_of want.Form = media.Csv
 media_of (want.MonthReading month.Chart) = media.Svg
 media_of (want.MonthOfAll reading) = media.Csv
 media_of want.Forecast = media.Csv

@@ -1,5 +1,5 @@
 -- Trusted in part: The routes, and what a path names.
-use Rattle.std.specs.Prelude.{ℕ, List, [], ◌∷◌, ◌++◌, Option, Some, None, option_map, codes, flat_map, Result, Ok, Err, ◌==◌, ◌+◌, ◌-◌, drop, take, length, if◌then◌else◌}
+use Rattle.std.specs.Prelude.{ℕ, List, [], ◌∷◌, ◌++◌, Option, Some, None, option_map, codes, flat_map, Bool, bytes_eq, Result, Ok, Err, ◌==◌, ◌+◌, ◌-◌, drop, take, length, if◌then◌else◌}
 use Rattle.matchit.specs.Rows.{RowsOf}
 use Rattle.matchit.specs.Order.{placed}
 use Rattle.matchit.specs.Route.{Scan, parse_route}
@@ -8,12 +8,14 @@ use Rattle.matchit.specs.Seek.{first}
 use Rattle.matchit.specs.declared.error.InsertError.{InsertError}
 use Rattle.tacho_desk.specs.declared.want.MonthOfAll.TheVariants.{Incidents, Overview, Standing}
 use Rattle.tacho_desk.specs.declared.want.MonthReading.TheVariants.{Chart, Gaps, Sheet, Spans, Why}
-use Rattle.tacho_desk.specs.declared.want.Reading.TheVariants.{Breaches, Debts, Entries, Files, Form, Owed, Stretches}
+use Rattle.tacho_desk.specs.declared.want.Reading.TheVariants.{Breaches, Debts, Entries, Files, Owed, Stretches}
 use Rattle.tacho_desk.specs.declared.want.Want.{Want}
-use Rattle.tacho_desk.specs.declared.want.Want.TheVariants.{Ahead, Base, Drivers, Enter, File, Forecast, Import, Key, MonthOfAll, MonthReading, Reading, Register, Version, Withdraw}
+use Rattle.tacho_desk.specs.declared.want.Want.TheVariants.{Ahead, Base, Drivers, Enter, File, Forecast, Form, Import, Key, MonthOfAll, MonthReading, Name, Reading, Register, Version, Withdraw}
 use Rattle.tacho_desk.specs.Words.{Wish, wish_in}
 use Rattle.tacho_message.specs.declared.method.Method.{Method}
 use Rattle.tacho_message.specs.declared.method.Method.TheVariants as method
+use Rattle.tacho_http.specs.declared.places.Ending.{Ending}
+use Rattle.tacho_http.specs.declared.places.Ending.TheVariants.{Fixed, Word, Words}
 use Rattle.tacho_http.specs.declared.places.Found.{Found}
 use Rattle.tacho_http.specs.declared.places.Place.{Place}
 use Rattle.tacho_http.specs.declared.places.Asker.{Asker}
@@ -58,16 +60,19 @@ office_table =
     ∷ table_row (codes "/drivers/{driver}/stretches") Office (Some (Reading Stretches)) None
     ∷ table_row (codes "/drivers/{driver}/debts") Office (Some (Reading Debts)) None
     ∷ table_row (codes "/drivers/{driver}/files") Office (Some (Reading Files)) None
-    ∷ table_row (codes "/drivers/{driver}/form") Office (Some (Reading Form)) None
+    ∷ table_row (codes "/drivers/{driver}/form") Office (Some Form) None
+    ∷ table_row (codes "/drivers/{driver}/form/{word}") Office (Some Form) None
     ∷ table_row (codes "/drivers/{driver}/why/{word}") Office (Some (MonthReading Why)) None
     ∷ table_row (codes "/drivers/{driver}/chart/{word}") Office (Some (MonthReading Chart)) None
-    ∷ table_row (codes "/drivers/{driver}/ahead/{word}/{time}") Office (Some Ahead) None
+    ∷ table_row (codes "/drivers/{driver}/ahead/{word}/{next}") Office (Some Ahead) None
     ∷ table_row (codes "/overview/{word}") Office (Some (MonthOfAll Overview)) None
     ∷ table_row (codes "/incidents/{word}") Office (Some (MonthOfAll Incidents)) None
     ∷ table_row (codes "/standing/{word}") Office (Some (MonthOfAll Standing)) None
-    ∷ table_row (codes "/forecast/{word}/{time}") Office (Some Forecast) None
+    ∷ table_row (codes "/forecast/{word}/{next}") Office (Some Forecast) None
     ∷ table_row (codes "/version") Office (Some Version) None
     ∷ table_row (codes "/drivers/{driver}/key") Office None (Some Key)
+    ∷ table_row (codes "/drivers/{driver}/name") Office None (Some Name)
+    ∷ table_row (codes "/drivers/{driver}/withdraw/{word}/{next}") Office None (Some Withdraw)
     ∷ []
 
 -- what else a driver may ask for
@@ -76,10 +81,11 @@ driver_table =
     table_row (codes "/me/stretches") Driver (Some (Reading Stretches)) None
     ∷ table_row (codes "/me/debts") Driver (Some (Reading Debts)) None
     ∷ table_row (codes "/me/files") Driver (Some (Reading Files)) None
-    ∷ table_row (codes "/me/form") Driver (Some (Reading Form)) None
+    ∷ table_row (codes "/me/form") Driver (Some Form) None
+    ∷ table_row (codes "/me/form/{word}") Driver (Some Form) None
     ∷ table_row (codes "/me/why/{word}") Driver (Some (MonthReading Why)) None
     ∷ table_row (codes "/me/chart/{word}") Driver (Some (MonthReading Chart)) None
-    ∷ table_row (codes "/me/ahead/{word}/{time}") Driver (Some Ahead) None
+    ∷ table_row (codes "/me/ahead/{word}/{next}") Driver (Some Ahead) None
     ∷ table_row (codes "/me/version") Driver (Some Version) None
     ∷ table_row (codes "/me/driver") Driver (Some Drivers) None
     ∷ []
@@ -88,13 +94,22 @@ driver_table =
 abbrev pub all_routes : List TableRow
 all_routes = route_table ++ office_table ++ driver_table
 
+-- the text ends with another
+abbrev pub ends_with : List ℕ → List ℕ → Bool
+ends_with end text = bytes_eq end (drop (length text - length end) text)
+
+-- how many arguments, beside the driver's number, the paths of a route end with
+abbrev pub ending_of_route : List ℕ → Ending
+ending_of_route route =
+    if ends_with (codes "/{next}") route then Words else (if ends_with (codes "/{word}") route then Word else Fixed)
+
 -- a path, with who may ask there, and for what
 abbrev pub Offer : Type 0
 Offer = List ℕ × Place
 
 abbrev pub offer : List ℕ → Asker → Option Want → List Offer
 offer path a None = []
-offer path a (Some want) = (path, record { asker = a; want = want }) ∷ []
+offer path a (Some want) = (path, record { asker = a; want = want; ending = ending_of_route path }) ∷ []
 
 -- what a row offers for a method
 abbrev pub offered : Method → TableRow → List Offer
@@ -141,11 +156,16 @@ last_part path = last_from path path
 abbrev pub front_part : List ℕ → List ℕ
 front_part path = take (length path - (length (last_part path) + 1)) path
 
--- the word of what is asked for: the last part of a path; of a forecast the part before it, since the last is its time
-abbrev pub word_part : Want → List ℕ → List ℕ
-word_part Ahead path = last_part (front_part path)
-word_part Forecast path = last_part (front_part path)
-word_part want path = last_part path
+-- the argument other than the driver's number: the last part of a path, or the part before it if there are two
+abbrev pub word_part : Ending → List ℕ → List ℕ
+word_part Fixed path = []
+word_part Word path = last_part path
+word_part Words path = last_part (front_part path)
+
+-- the argument after that, if there are two
+abbrev pub next_part : Ending → List ℕ → List ℕ
+next_part Words path = last_part path
+next_part ending path = []
 
 -- who may ask at a path, and for what
 pub record Named : Type 0 where
@@ -158,8 +178,8 @@ named_by path route = record {
   wish = record {
     want = route.value.want;
     driver = driver_part path;
-    word = word_part route.value.want path;
-    time = last_part path;
+    word = word_part route.value.ending path;
+    next = next_part route.value.ending path;
   };
 }
 

@@ -7,7 +7,7 @@ use Rattle.tacho_state.specs.declared.caller.Caller.{Caller}
 use Rattle.tacho_state.specs.declared.caller.Caller.TheVariants as caller
 use Rattle.tacho_state.specs.declared.fault.StoreFault.{StoreFault}
 use Rattle.tacho_state.specs.declared.fault.StoreFault.TheVariants as store
-use Rattle.tacho_sheet.specs.Key.{IsKeyLine}
+use Rattle.tacho_sheet.specs.Value.{IsKeyLine}
 use Rattle.tacho_sheet.specs.Fault.{fault_of_store}
 use Rattle.tacho_desk.specs.declared.task.Task.{Task}
 use Rattle.tacho_desk.specs.declared.task.Task.TheVariants as task
@@ -54,7 +54,7 @@ Bodied n rest s With reply after =
 
 -- what is asked for is done with its body; its arguments are read from left to right
 abbrev pub Runs : List ℕ → Wish → ℕ → Caller → List ℕ → State → Reaction
-Runs office w n c rest s = Bodied n rest s (λ body reply after. (wanted : Wanted) × IsTask w.want c w.driver w.word w.time wanted × RepliesToTask office wanted body s reply after)
+Runs office w n c rest s = Bodied n rest s (λ body reply after. (wanted : Wanted) × IsTask w.want c w.driver w.word w.next wanted × RepliesToTask office wanted body s reply after)
 
 -- 400, 411 or 413 if the length of the body is refused
 abbrev pub WithBody : List ℕ → Result ℕ Status → Wish → Caller → List ℕ → State → Reaction

@@ -5,7 +5,7 @@ ghost use Rattle.tacho_message.specs.declared.method.Method.TheVariants.{Get, Po
 ghost use Rattle.tacho_desk.specs.Commands.{row_of};
 ghost use Rattle.tacho_http.specs.Asked.{asker_of, wish_at, wish_by, wish_found};
 ghost use Rattle.tacho_http.specs.Offers.{asker_of_path, offer_at, offers_in, offers_of, want_of as want_at};
-ghost use Rattle.tacho_http.specs.Routes.{driver_part, front_part, last_part, named_in, named_found, routes, with_offers, word_part};
+ghost use Rattle.tacho_http.specs.Routes.{driver_part, ending_of_route, front_part, last_part, named_in, named_found, next_part, routes, with_offers, word_part};
 
 use matchit::{InsertError, Router};
 use memchr::{memchr, memrchr};
@@ -27,11 +27,23 @@ pub(crate) enum Asker {
     Driver,
 }
 
-/// What a path offers for a method: who may ask there, and for what.
+/// How many arguments a path ends with, beside the driver's number.
+#[derive(Clone, Copy)]
+pub(crate) enum Ending {
+    /// None.
+    Fixed,
+    /// One, the last part.
+    Word,
+    /// Two, the last two parts.
+    Words,
+}
+
+/// What a path offers for a method: who may ask there, for what, and with how many arguments.
 #[derive(Clone, Copy)]
 pub(crate) struct Place {
     pub asker: Asker,
     pub want: Want,
+    pub ending: Ending,
 }
 
 /// Who asks at a path: a driver if it begins with `/me/`, otherwise the office.
@@ -45,13 +57,34 @@ fn asker_at(path: &str) -> Asker
     }
 }
 
+/// How many arguments the paths of a route end with, by the text of the route.
+fn ending_of(route: &str) -> Ending
+    ensures { result ≡ ending_of_route route.now }
+{
+    if route.as_bytes().ends_with(b"/{next}") {
+        Ending::Words
+    } else if route.as_bytes().ends_with(b"/{word}") {
+        Ending::Word
+    } else {
+        Ending::Fixed
+    }
+}
+
 /// Adds the paths at which something is asked for.
 fn add_paths(router: &mut Router<Place>, paths: &[&str], want: Want) -> Result<(), InsertError>
     ensures { OnOk result (router.new ≡ with_offers router.old (map (offer_at want) (map (λ path. path.now) paths.now))) }
 {
     for path in paths {
         let asker = asker_at(path);
-        router.insert(path, Place { asker, want })?;
+        let ending = ending_of(path);
+        router.insert(
+            path,
+            Place {
+                asker,
+                want,
+                ending,
+            },
+        )?;
     }
     Ok(())
 }
@@ -107,8 +140,8 @@ impl Model for Routes {
     ghost invariant = { λ r. (r.get ≡ routes Get) × (r.post ≡ routes Post) };
 }
 
-/// What a path names: who may ask there, and for what. The driver's number is the part after `/drivers/`. The other argument is the last
-/// part; of a forecast they are the last two, its day and its time.
+/// What a path names: who may ask there, and for what. The driver's number is the part after `/drivers/`. The other arguments are the last
+/// parts.
 #[derive(Clone, Copy)]
 struct Found<'p> {
     asker: Asker,
@@ -198,13 +231,25 @@ fn front_of(path: &[u8]) -> &[u8]
     }
 }
 
-/// The word of what is asked for: the last part of a path; of a forecast the part before it, since the last is its time.
-fn word_of(want: Want, path: &[u8]) -> &[u8]
-    ensures { result.now ≡ word_part want path.now }
+/// The argument other than the driver's number: the last part of a path, or the part before it if there are two. An empty text if there is
+/// none.
+fn word_of(ending: Ending, path: &[u8]) -> &[u8]
+    ensures { result.now ≡ word_part ending path.now }
 {
-    match want {
-        Want::Ahead | Want::Forecast => last_of(front_of(path)),
-        _ => last_of(path),
+    match ending {
+        Ending::Fixed => &[],
+        Ending::Word => last_of(path),
+        Ending::Words => last_of(front_of(path)),
+    }
+}
+
+/// The argument after that: the last part of a path, if there are two. An empty text if there is none.
+fn next_of(ending: Ending, path: &[u8]) -> &[u8]
+    ensures { result.now ≡ next_part ending path.now }
+{
+    match ending {
+        Ending::Words => last_of(path),
+        _ => &[],
     }
 }
 
@@ -218,8 +263,8 @@ fn find_in<'p>(router: &Router<Place>, path: &'p str) -> Option<Found<'p>>
             wish: Wish {
                 want: found.value.want,
                 driver: driver_of(path.as_bytes()),
-                word: word_of(found.value.want, path.as_bytes()),
-                time: last_of(path.as_bytes()),
+                word: word_of(found.value.ending, path.as_bytes()),
+                next: next_of(found.value.ending, path.as_bytes()),
             },
         }),
         Err(_) => None,

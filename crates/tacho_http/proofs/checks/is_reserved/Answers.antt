@@ -1,7 +1,7 @@
 use Rattle.std.proofs.Common.{◌≡◌, ◌∙◌, bytes_eq, subst, true}
 use Rattle.std.specs.Cmp.Lexicographic.{bytes_decides}
 use Rattle.tacho_desk.specs.declared.task.Task.{Task}
-use Rattle.tacho_sheet.proofs.KeyLemmas.{one_key}
+use Rattle.tacho_sheet.proofs.ValueLemmas.{one_key}
 use Rattle.tacho_http.specs.Serve.{IsReserved}
 use Rattle.tacho_http.proofs.checks.is_reserved.Goals as goal
 

@@ -9,7 +9,7 @@ pub loop-path-preserved : goal.loop-path-preserved
 unfolding with_offers
 loop-path-preserved c =
     let i = c.loop-path.path-index in
-    rw (add-one i, added _ _ _ c.insert.ensures c.in_ok-insert.was, c.asker_at-asker.ensures)
+    rw (add-one i, added _ _ _ c.insert.ensures c.in_ok-insert.was, c.asker_at-asker.ensures, c.ending_of-ending.ensures)
     (sym (ap (λ rest. with_offers c.loop-path.router (map (offer_at c.args.want) (map (λ path. path.now) rest)))
     (drop-cons c.args.paths.now i _ (omega arith))) ∙ c.loop-path.invariant)
 
