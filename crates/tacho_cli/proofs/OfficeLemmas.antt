@@ -41,10 +41,10 @@ time_without make (Ok n) e = cc
 time_without make (Err f) e = cc
 
 -- nor the other arguments
-words_without : (w : Want) (c : Caller) (driver word time : List ℕ) → IsTask w c driver word time (Err fault.Device) → ⊥
-words_without want.Import c driver word time is = grind (arith, part_without)
-words_without want.Drivers caller.Office [] word time is = cc
-words_without w c driver word time is = grind (arith, time_without)
+words_without : (w : Want) (c : Caller) (driver word next : List ℕ) → IsTask w c driver word next (Err fault.Device) → ⊥
+words_without want.Import c driver word next is = grind (arith, part_without)
+words_without want.Drivers caller.Office [] word next is = cc
+words_without w c driver word next is = grind (arith, time_without)
 
 -- nor is a card file
 card_without : (e : CardFault) → fault.Device ≡ card_fault e → ⊥
@@ -62,6 +62,7 @@ faulty_takes task.Register input f h = (refl, λ e. csv_without h.0 (sym e ∙ h
 faulty_takes (task.Import caller part) input f h = (refl, λ e. card_without h.0 (sym e ∙ h.2))
 faulty_takes (task.Enter n) input f h = (refl, λ e. csv_without h.0 (sym e ∙ h.2))
 faulty_takes (task.Key n) input f h = (refl, λ e. csv_without h.0 (sym e ∙ h.2))
+faulty_takes (task.Name n) input f h = (refl, λ e. csv_without h.0 (sym e ∙ h.2))
 faulty_takes t input f h = absurd h
 
 -- nor is an input that may be too large
@@ -84,7 +85,7 @@ never_device : {K : Type 0} (old new : K) (w : Wish) (input : List ℕ)
     → AsksOnly old new (looks_ahead w.want) (AreSound w input) (AreArgumentsFaulty w input) (Err fault.Device) → ⊥
 never_device old new w input (inl (sound, archive)) = archive
 never_device old new w input (inr (same, inr memory)) = cc
-never_device old new w input (inr (same, inl (Err f, is, e))) = words_without w.want caller.Office w.driver w.word w.time (rw (← e) at is)
+never_device old new w input (inr (same, inl (Err f, is, e))) = words_without w.want caller.Office w.driver w.word w.next (rw (← e) at is)
 never_device old new w input (inr (same, inl (Ok t, is, h))) = over_without (takes_input w.want) t input h
 
 -- a job at an archive, by its arguments and by whether the reader failed

@@ -1,6 +1,6 @@
 -- Trusted: The office's key that `listen` reads before it opens the archive.
 use Rattle.std.specs.Prelude.{◌≡◌, ◌⊎◌, ℕ, Bool, true, List, Option, Ok, Err}
-use Rattle.tacho_sheet.specs.Key.{IsKeyLine, IsKeyRead}
+use Rattle.tacho_sheet.specs.Value.{IsKeyLine, IsKeyRead}
 use Rattle.tacho_sheet.specs.declared.fault.SheetFault.{SheetFault}
 use Rattle.tacho_sheet.specs.Fault.{sheet_fault}
 use Rattle.tacho_desk.specs.Told.{Answer}

@@ -33,7 +33,7 @@ DoesTask takes (Ok t) input s = DoesOver takes t input s
 
 -- the task that the office asks for, or the fault of its arguments, read from left to right
 abbrev pub OfficeWants : Wish → Wanted → Type 0
-OfficeWants w wanted = IsTask w.want caller.Office w.driver w.word w.time wanted
+OfficeWants w wanted = IsTask w.want caller.Office w.driver w.word w.next wanted
 
 -- what the office asks for is done, after its input is read
 abbrev pub Performs : Wish → List ℕ → State → Doing

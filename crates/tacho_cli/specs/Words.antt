@@ -73,17 +73,18 @@ abbrev pub or_empty : Option Text → Text
 or_empty None = []
 or_empty (Some text) = text
 
--- the driver's number; below, the other argument: a part, a number, a date or a month; and the time after a date
+-- the driver's number; below, the other argument: a part, a number, a date or a month; and the one after it: a time, or the last number of a
+-- range
 abbrev pub driver_text : List Row → Text
 driver_text rows = or_empty (option_or (first_of (codes "DRIVER") rows) (first_of (codes "[DRIVER]") rows))
 
 abbrev pub other_text : List Row → Text
 other_text rows =
-    or_empty (option_or (option_or (first_of (codes "PART") rows) (first_of (codes "NUMBER") rows))
-    (option_or (first_of (codes "DATE") rows) (first_of (codes "MONTH") rows)))
+    or_empty (option_or (option_or (option_or (first_of (codes "PART") rows) (first_of (codes "NUMBER") rows))
+    (option_or (first_of (codes "DATE") rows) (first_of (codes "[DATE]") rows))) (first_of (codes "MONTH") rows))
 
-abbrev pub time_text : List Row → Text
-time_text rows = or_empty (first_of (codes "TIME") rows)
+abbrev pub next_text : List Row → Text
+next_text rows = or_empty (option_or (first_of (codes "TIME") rows) (first_of (codes "[LAST]") rows))
 
 -- the job of a subcommand, with the arguments in these rows
 abbrev pub IsJobOf : Act → List Row → Job → Type 0
@@ -95,7 +96,7 @@ IsJobOf act.Migrate rows (job.Migrate archive) = IsWord rows (codes "ARCHIVE") a
 IsJobOf act.Check rows (job.Check archive) = IsWord rows (codes "ARCHIVE") archive.now
 IsJobOf (act.AtDesk w) rows (job.AtDesk j) =
     IsWord rows (codes "ARCHIVE") j.archive.now
-    × (wish_in j.wish ≡ record { want = w; driver = driver_text rows; word = other_text rows; time = time_text rows })
+    × (wish_in j.wish ≡ record { want = w; driver = driver_text rows; word = other_text rows; next = next_text rows })
 IsJobOf act.Serve rows (job.Serve archive key port count) =
     IsWord rows (codes "ARCHIVE") archive.now × IsWord rows (codes "KEY") key.now
     × IsNumbered rows (codes "PORT") 65535 port × IsNumbered rows (codes "COUNT") 1000000 count

@@ -124,8 +124,11 @@ fn push_words(text: &mut String, row: &Row) -> Result<(), AllocError> {
 pub(crate) fn input_of(act: Act) -> Option<&'static str> {
     match act {
         Act::AtDesk(Want::Register | Want::Enter) => Some("CSV"),
-        Act::Dump | Act::Holder | Act::Card | Act::Listen | Act::AtDesk(Want::Import | Want::Key) =>
-            Some("FILE"),
+        Act::Dump
+        | Act::Holder
+        | Act::Card
+        | Act::Listen
+        | Act::AtDesk(Want::Import | Want::Key | Want::Name) => Some("FILE"),
         _ => None,
     }
 }
@@ -141,7 +144,9 @@ fn meaning_of(argument: Argument) -> &'static str {
         Argument::Number => {
             "The number of the entry or the card file, as it was printed when it was added"
         }
+        Argument::AnyLast => "The number of the last entry, to withdraw all from the first to it",
         Argument::Date => "A Monday, as 2024-03-04",
+        Argument::AnyDate => "A day, as 2024-03-04: only gaps before it are printed",
         Argument::Month => "A month, as 2024-03",
         Argument::DateOfTime => "A day, as 2024-03-07",
         Argument::Time => "The time of that day in UTC, as 12:00",

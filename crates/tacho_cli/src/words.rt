@@ -110,8 +110,8 @@ fn other_of<'a>(words: &ArgMatches<'a>) -> &'a str
     ensures { result.now ≡ other_text (rows_of (found_of words.now)) }
 {
     let number = text_of(words, "PART").or(text_of(words, "NUMBER"));
-    let time = text_of(words, "DATE").or(text_of(words, "MONTH"));
-    number.or(time).unwrap_or("")
+    let date = text_of(words, "DATE").or(text_of(words, "[DATE]"));
+    number.or(date).or(text_of(words, "MONTH")).unwrap_or("")
 }
 
 /// Makes the job of a subcommand from its arguments. Fails with `Usage::Numbers` if the port or the count isn't a valid number.
@@ -130,14 +130,14 @@ fn job_of<'a>(act: Act, words: &ArgMatches<'a>) -> Result<Job<'a>, Usage>
         Act::Check => Ok(Job::Check { archive: archive? }),
         Act::AtDesk(want) => {
             let driver = text_of(words, "DRIVER").or(text_of(words, "[DRIVER]"));
-            let time = text_of(words, "TIME");
+            let next = text_of(words, "TIME").or(text_of(words, "[LAST]"));
             Ok(Job::AtDesk(DeskJob {
                 archive: archive?,
                 wish: Wish {
                     want,
                     driver: driver.unwrap_or("").as_bytes(),
                     word: other_of(words).as_bytes(),
-                    time: time.unwrap_or("").as_bytes(),
+                    next: next.unwrap_or("").as_bytes(),
                 },
             }))
         }
