@@ -27,6 +27,7 @@ pub fn advice_on(fault: Fault) -> &'static str {
         Fault::Number => {
             "numbers are written without leading zeros; tacho drivers, entries and files list them"
         }
+        Fault::Order => "the lower number comes first",
         Fault::Part => "PART is both, first or second",
         Fault::TooLarge => "a card file or a text has at most 262144 bytes",
         Fault::Device => "standard input can't be read, or standard output can't be written",

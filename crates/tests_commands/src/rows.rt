@@ -18,6 +18,10 @@ pub(crate) const ANOTHER_DAY: &str =
 pub(crate) const NOON: &str =
     "hex:05200000110d443132333435363738393031323330300504000016000000000000001265e50f0000010000000011e019fe";
 
+/// Three days' rest.
+const THREE_DAYS: &str =
+    "start,past,activity\n2024-03-09 00:00,2024-03-10 00:00,rest\n2024-03-10 00:00,2024-03-11 00:00,rest\n2024-03-11 00:00,2024-03-12 00:00,rest\n";
+
 /// Saturday, 9 March: rest, then work from 08:00 to 10:00.
 const SATURDAY: &str =
     "hex:05200000110d443132333435363738393031323330300504000016000000000000001265eba68000010000600071e06258";
@@ -119,7 +123,7 @@ EXAMINED TO 2024-03-04 17:00 unknown
 ";
 
 /// Rows that begin after the driver was registered.
-static ROWS: [(&str, &[Command]); 9] = [
+static ROWS: [(&str, &[Command]); 10] = [
     (
         "keys",
         &[
@@ -179,6 +183,18 @@ static ROWS: [(&str, &[Command]); 9] = [
             ("gaps 17 2100-01", "", "Z3 out of range\n", 1),
             ("withdraw 17 1000001", "", "N1 bad number\n", 1),
             ("withdraw 17 1000000", "", "S7 unknown entry\n", 1),
+            ("withdraw 17 1 1000001", "", "N1 bad number\n", 1),
+            ("withdraw 17 1000001 1", "", "N1 bad number\n", 1),
+            ("withdraw 17 2 1", "", "N2 wrong order\n", 1),
+            ("withdraw 18 2 1", "", "N2 wrong order\n", 1),
+            ("withdraw 18 1 2", "", "S4 unknown driver\n", 1),
+            ("name 017", "Anna Lind\n", "N1 bad number\n", 1),
+            ("name 17", "Anna, Lind\n", "E9 bad value for name\n", 1),
+            ("name 17", "", "E9 bad value for name\n", 1),
+            ("name 18", "Anna, Lind\n", "E9 bad value for name\n", 1),
+            ("name 18", "Anna Lind\n", "S4 unknown driver\n", 1),
+            ("form 17 2024-3-4", "", "Z1 not of the shape\n", 1),
+            ("form 18 2024-03-04", "", "S4 unknown driver\n", 1),
             ("file 17 2", "", "S10 unknown download\n", 1),
             ("base 17 2024-03-05", "", "S9 not a Monday\n", 1),
             ("base 1000000 2024-03-04", "", "N1 bad number\n", 1),
@@ -261,6 +277,47 @@ static ROWS: [(&str, &[Command]); 9] = [
                 0,
             ),
             ("withdraw 17 1", "", "S8 already withdrawn\n", 1),
+        ],
+    ),
+    (
+        "a range of entries that is withdrawn, and another name",
+        &[
+            ("enter 17", THREE_DAYS, "entered 1 to 3\n", 0),
+            ("withdraw 17 2", "", "withdrawn 2\n", 0),
+            ("withdraw 17 1 3", "", "S8 already withdrawn\n", 1),
+            ("withdraw 17 3 4", "", "S7 unknown entry\n", 1),
+            ("withdraw 17 3 3", "", "withdrawn 3 to 3\n", 0),
+            (
+                "spans 17 2024-03",
+                "",
+                "start,past,activity,manning\n2024-03-09 00:00,2024-03-10 00:00,rest,single\n",
+                0,
+            ),
+            (
+                "enter 17",
+                "start,past,activity\n2024-03-10 00:00,2024-03-10 12:00,work\n",
+                "entered 4 to 4\n",
+                0,
+            ),
+            (
+                "form 17 2024-03-06",
+                "",
+                "start,past,activity,author,note\n2024-03-04 00:00,2024-03-06 00:00,,,\n",
+                0,
+            ),
+            ("name 17", "Anna Lind", "name 17\n", 0),
+            (
+                "entries 17",
+                "",
+                "1 2024-03-09 00:00 2024-03-10 00:00 rest kept \"office\" \"\"\n2 2024-03-10 00:00 2024-03-11 00:00 rest withdrawn \"office\" \"\"\n3 2024-03-11 00:00 2024-03-12 00:00 rest withdrawn \"office\" \"\"\n4 2024-03-10 00:00 2024-03-10 12:00 work kept \"office\" \"\"\n",
+                0,
+            ),
+            (
+                "drivers 17",
+                "",
+                "17 0d4431323334353637383930313233 2024-03-04 0 4 Anna Lind\n",
+                0,
+            ),
         ],
     ),
     (

@@ -93,8 +93,12 @@ pub(crate) const KINDS: [Kind; 4] = [
 /// A day's rest.
 const SATURDAY: &str = "start,past,activity\n2024-03-09 00:00,2024-03-10 00:00,rest\n";
 
-/// The commands that are interrupted. Each except the entry is repeated, and the last one is refused.
-const SCRIPT: [Command; 14] = [
+/// Two days' rest.
+const TWO_DAYS: &str =
+    "start,past,activity\n2024-03-09 00:00,2024-03-10 00:00,rest\n2024-03-10 00:00,2024-03-11 00:00,rest\n";
+
+/// The commands that are interrupted. Each except the entries is repeated, and the last one is refused.
+const SCRIPT: [Command; 19] = [
     ANNA,
     ("register", REGISTRATION, "S1 driver taken\n", 1),
     ("import both", NOON, "added driver 17 number 1\n", 0),
@@ -108,6 +112,11 @@ const SCRIPT: [Command; 14] = [
     ("base 17 2024-03-11", "", "base 2024-03-11\n", 0),
     ("key 17", "anna-key-2", "key 17\n", 0),
     ("key 17", "anna-key-2", "key 17\n", 0),
+    ("enter 17", TWO_DAYS, "entered 2 to 3\n", 0),
+    ("withdraw 17 2 3", "", "withdrawn 2 to 3\n", 0),
+    ("withdraw 17 2 3", "", "S8 already withdrawn\n", 1),
+    ("name 17", "Anna Lind\n", "name 17\n", 0),
+    ("name 17", "Anna Lind\n", "name 17\n", 0),
     (
         "import both",
         ANOTHER_DAY,

@@ -4,7 +4,8 @@ use std::test::Fail;
 use tacho_card::{CardFault, Part};
 use tacho_sheet::{
     Fault, LeftOut, SheetFault, base_line, entered_line, entry_text, fault_line, file_text,
-    imported_line, read_driver, read_entries, read_number, registered_line, withdrawn_line,
+    imported_line, key_line, name_line, read_driver, read_entries, read_key_line, read_name_line,
+    read_number, registered_line, withdrawn_line, withdrawn_range_line,
 };
 use tacho_state::{Column, Entered, Entry, EntryLine, Imported, StoreFault, file_summary};
 use tacho_time::{Activity, Day, Mark, Minute, Span, TimeFault};
@@ -581,6 +582,14 @@ fn commands_that_were_done_have_lines(rt: HostRuntime) {
     let rows = [
         (registered_line(17), "registered 17\n"),
         (withdrawn_line(1), "withdrawn 1\n"),
+        (withdrawn_range_line(1, 672), "withdrawn 1 to 672\n"),
+        (withdrawn_range_line(3, 3), "withdrawn 3 to 3\n"),
+        (
+            withdrawn_range_line(0, u32::MAX),
+            "withdrawn 0 to 4294967295\n",
+        ),
+        (key_line(17), "key 17\n"),
+        (name_line(u32::MAX), "name 4294967295\n"),
         (imported_line(added), "added driver 17 number 4294967295\n"),
         (
             imported_line(Imported::Repeated { driver: 0 }),
@@ -604,6 +613,42 @@ fn commands_that_were_done_have_lines(rt: HostRuntime) {
     for (line, text) in &rows {
         assert_same(&rt, line.as_slice(), text.as_bytes());
     }
+}
+
+#[test]
+fn a_line_has_a_key_or_a_name(rt: HostRuntime) {
+    let rows = [
+        ("Anna Lind", Some("Anna Lind")),
+        ("Anna Lind\n", Some("Anna Lind")),
+        ("Anna Lind\r\n", Some("Anna Lind")),
+        ("\u{00c5}sa \u{00d6}", Some("\u{00c5}sa \u{00d6}")),
+        (" ", Some(" ")),
+        ("", None),
+        ("\n", None),
+        ("Anna Lind\n\n", None),
+        ("Anna\nLind", None),
+        ("Anna Lind\r", None),
+        ("Lind, Anna", None),
+        ("Anna \"Lind\"", None),
+        ("Anna\tLind", None),
+        (
+            "0123456789012345678901234567890123456789012345678901234567890123",
+            Some("0123456789012345678901234567890123456789012345678901234567890123"),
+        ),
+        (
+            "01234567890123456789012345678901234567890123456789012345678901234",
+            None,
+        ),
+    ];
+    for (text, name) in rows {
+        assert_same(&rt, read_name_line(text.as_bytes()).ok(), name);
+    }
+    let bad_name = Err(SheetFault::Column(Column::Name));
+    assert_same(&rt, read_name_line(b"\xff"), bad_name);
+    assert_same(&rt, read_key_line(b"anna-key-1\r\n"), Ok("anna-key-1"));
+    let bad_key = Err(SheetFault::Column(Column::Key));
+    assert_same(&rt, read_key_line(b"anna-key-1\r"), bad_key);
+    assert_same(&rt, read_key_line(b"anna-ke"), bad_key);
 }
 
 #[test]
@@ -797,6 +842,7 @@ fn faults_have_lines(rt: HostRuntime) {
     }
     let others = [
         (Fault::Number, "N1 bad number\n"),
+        (Fault::Order, "N2 wrong order\n"),
         (Fault::Part, "P1 bad part\n"),
         (Fault::TooLarge, "X1 too large\n"),
         (Fault::Device, "X2 device failed\n"),

@@ -235,7 +235,7 @@ fn writers_fail_at_each_call(rt: HostRuntime) -> Result<(), Fail> {
 }
 
 /// Arguments, and the job that they name.
-static JOBS: [(&[&str], Job<'static>); 35] = [
+static JOBS: [(&[&str], Job<'static>); 38] = [
     (&["tacho", "dump"], Job::Dump),
     (&["tacho", "holder"], Job::Holder),
     (&["tacho", "card", "first"], Job::Card { part: "first" }),
@@ -253,7 +253,7 @@ static JOBS: [(&[&str], Job<'static>); 35] = [
                 want: Want::Register,
                 driver: b"",
                 word: b"",
-                time: b"",
+                next: b"",
             },
         }),
     ),
@@ -265,7 +265,7 @@ static JOBS: [(&[&str], Job<'static>); 35] = [
                 want: Want::Import,
                 driver: b"",
                 word: b"second",
-                time: b"",
+                next: b"",
             },
         }),
     ),
@@ -277,7 +277,7 @@ static JOBS: [(&[&str], Job<'static>); 35] = [
                 want: Want::Enter,
                 driver: b"17",
                 word: b"",
-                time: b"",
+                next: b"",
             },
         }),
     ),
@@ -289,7 +289,19 @@ static JOBS: [(&[&str], Job<'static>); 35] = [
                 want: Want::Withdraw,
                 driver: b"17",
                 word: b"3",
-                time: b"",
+                next: b"",
+            },
+        }),
+    ),
+    (
+        &["tacho", "withdraw", "a.db", "17", "3", "672"],
+        Job::AtDesk(DeskJob {
+            archive: "a.db",
+            wish: Wish {
+                want: Want::Withdraw,
+                driver: b"17",
+                word: b"3",
+                next: b"672",
             },
         }),
     ),
@@ -301,7 +313,7 @@ static JOBS: [(&[&str], Job<'static>); 35] = [
                 want: Want::Base,
                 driver: b"17",
                 word: b"2024-03-11",
-                time: b"",
+                next: b"",
             },
         }),
     ),
@@ -313,7 +325,19 @@ static JOBS: [(&[&str], Job<'static>); 35] = [
                 want: Want::Key,
                 driver: b"17",
                 word: b"",
-                time: b"",
+                next: b"",
+            },
+        }),
+    ),
+    (
+        &["tacho", "name", "a.db", "17"],
+        Job::AtDesk(DeskJob {
+            archive: "a.db",
+            wish: Wish {
+                want: Want::Name,
+                driver: b"17",
+                word: b"",
+                next: b"",
             },
         }),
     ),
@@ -325,7 +349,7 @@ static JOBS: [(&[&str], Job<'static>); 35] = [
                 want: Want::MonthReading(MonthReading::Spans),
                 driver: b"17",
                 word: b"2024-03",
-                time: b"",
+                next: b"",
             },
         }),
     ),
@@ -337,7 +361,7 @@ static JOBS: [(&[&str], Job<'static>); 35] = [
                 want: Want::MonthReading(MonthReading::Gaps),
                 driver: b"17",
                 word: b"2024-03",
-                time: b"",
+                next: b"",
             },
         }),
     ),
@@ -349,7 +373,7 @@ static JOBS: [(&[&str], Job<'static>); 35] = [
                 want: Want::MonthReading(MonthReading::Sheet),
                 driver: b"17",
                 word: b"2024-03",
-                time: b"",
+                next: b"",
             },
         }),
     ),
@@ -361,7 +385,7 @@ static JOBS: [(&[&str], Job<'static>); 35] = [
                 want: Want::Reading(Reading::Breaches),
                 driver: b"17",
                 word: b"",
-                time: b"",
+                next: b"",
             },
         }),
     ),
@@ -373,7 +397,7 @@ static JOBS: [(&[&str], Job<'static>); 35] = [
                 want: Want::MonthReading(MonthReading::Why),
                 driver: b"17",
                 word: b"2024-03",
-                time: b"",
+                next: b"",
             },
         }),
     ),
@@ -385,7 +409,7 @@ static JOBS: [(&[&str], Job<'static>); 35] = [
                 want: Want::Reading(Reading::Owed),
                 driver: b"17",
                 word: b"",
-                time: b"",
+                next: b"",
             },
         }),
     ),
@@ -397,7 +421,7 @@ static JOBS: [(&[&str], Job<'static>); 35] = [
                 want: Want::Reading(Reading::Entries),
                 driver: b"17",
                 word: b"",
-                time: b"",
+                next: b"",
             },
         }),
     ),
@@ -409,7 +433,7 @@ static JOBS: [(&[&str], Job<'static>); 35] = [
                 want: Want::File,
                 driver: b"17",
                 word: b"3",
-                time: b"",
+                next: b"",
             },
         }),
     ),
@@ -421,7 +445,7 @@ static JOBS: [(&[&str], Job<'static>); 35] = [
                 want: Want::Reading(Reading::Files),
                 driver: b"17",
                 word: b"",
-                time: b"",
+                next: b"",
             },
         }),
     ),
@@ -433,7 +457,7 @@ static JOBS: [(&[&str], Job<'static>); 35] = [
                 want: Want::Drivers,
                 driver: b"",
                 word: b"",
-                time: b"",
+                next: b"",
             },
         }),
     ),
@@ -445,7 +469,7 @@ static JOBS: [(&[&str], Job<'static>); 35] = [
                 want: Want::Drivers,
                 driver: b"17",
                 word: b"",
-                time: b"",
+                next: b"",
             },
         }),
     ),
@@ -457,7 +481,7 @@ static JOBS: [(&[&str], Job<'static>); 35] = [
                 want: Want::Reading(Reading::Stretches),
                 driver: b"17",
                 word: b"",
-                time: b"",
+                next: b"",
             },
         }),
     ),
@@ -469,7 +493,7 @@ static JOBS: [(&[&str], Job<'static>); 35] = [
                 want: Want::Reading(Reading::Debts),
                 driver: b"17",
                 word: b"",
-                time: b"",
+                next: b"",
             },
         }),
     ),
@@ -478,10 +502,22 @@ static JOBS: [(&[&str], Job<'static>); 35] = [
         Job::AtDesk(DeskJob {
             archive: "a.db",
             wish: Wish {
-                want: Want::Reading(Reading::Form),
+                want: Want::Form,
                 driver: b"17",
                 word: b"",
-                time: b"",
+                next: b"",
+            },
+        }),
+    ),
+    (
+        &["tacho", "form", "a.db", "17", "2024-04-01"],
+        Job::AtDesk(DeskJob {
+            archive: "a.db",
+            wish: Wish {
+                want: Want::Form,
+                driver: b"17",
+                word: b"2024-04-01",
+                next: b"",
             },
         }),
     ),
@@ -493,7 +529,7 @@ static JOBS: [(&[&str], Job<'static>); 35] = [
                 want: Want::Ahead,
                 driver: b"17",
                 word: b"2024-03-07",
-                time: b"12:00",
+                next: b"12:00",
             },
         }),
     ),
@@ -505,7 +541,7 @@ static JOBS: [(&[&str], Job<'static>); 35] = [
                 want: Want::Forecast,
                 driver: b"",
                 word: b"2024-03-07",
-                time: b"12:00",
+                next: b"12:00",
             },
         }),
     ),
@@ -517,7 +553,7 @@ static JOBS: [(&[&str], Job<'static>); 35] = [
                 want: Want::MonthOfAll(MonthOfAll::Standing),
                 driver: b"",
                 word: b"2024-03",
-                time: b"",
+                next: b"",
             },
         }),
     ),
@@ -529,7 +565,7 @@ static JOBS: [(&[&str], Job<'static>); 35] = [
                 want: Want::MonthOfAll(MonthOfAll::Overview),
                 driver: b"",
                 word: b"2024-03",
-                time: b"",
+                next: b"",
             },
         }),
     ),
@@ -541,7 +577,7 @@ static JOBS: [(&[&str], Job<'static>); 35] = [
                 want: Want::MonthOfAll(MonthOfAll::Incidents),
                 driver: b"",
                 word: b"2024-03",
-                time: b"",
+                next: b"",
             },
         }),
     ),
@@ -657,9 +693,10 @@ Commands:
   register   Adds a driver: CSV with the head driver,holder,key,base,name
   import     Adds a driver's card file
   enter      Enters a driver's hours by hand: CSV with the head start,past,activity or start,past,activity,author,note
-  withdraw   Withdraws an entry, which stays listed and gives no more hours
+  withdraw   Withdraws an entry, or all from one number to another; they stay listed and give no more hours
   base       Sets the Monday from which a driver's hours are examined
   key        Sets a driver's key, the only line of its input
+  name       Sets a driver's name, the only line of its input
   spans      Prints the spans of a driver's month as CSV
   gaps       Prints the gaps in a driver's month, for which the archive has no hours
   sheet      Prints the sheet of a driver's month, with its totals and breaches
@@ -678,7 +715,7 @@ Commands:
   standing   Prints all drivers as CSV: how far each is held and examined, gaps, the breaches of a month and of the month before, and open debts
   overview   Prints a month of all drivers as CSV: what is held, how much of it is examined, and how many breaches there are of each rule
   incidents  Prints the breaches of a month of all drivers as CSV
-  form       Prints a driver's gaps as CSV, to fill in and enter
+  form       Prints a driver's gaps as CSV, to fill in and enter; with a date, those before that day
   serve      Answers COUNT connections on PORT of 127.0.0.1, one request each: the office's with KEY, drivers' with their own keys
   listen     Does the same as serve, with the office's key as the only line of its input
   version    Prints the version of this program, the schema of the archives that it makes, and the logic in which it is proved
@@ -722,6 +759,29 @@ Usage: tacho drivers ARCHIVE [DRIVER]
 Arguments:
   ARCHIVE   The path of the archive
   [DRIVER]  The driver's number, 1 to 999999
+";
+
+const HELP_OF_WITHDRAW: &str = "\
+Withdraws an entry, or all from one number to another; they stay listed and give no more hours
+
+Usage: tacho withdraw ARCHIVE DRIVER NUMBER [LAST]
+
+Arguments:
+  ARCHIVE   The path of the archive
+  DRIVER    The driver's number, 1 to 999999
+  NUMBER    The number of the entry or the card file, as it was printed when it was added
+  [LAST]    The number of the last entry, to withdraw all from the first to it
+";
+
+const HELP_OF_FORM: &str = "\
+Prints a driver's gaps as CSV, to fill in and enter; with a date, those before that day
+
+Usage: tacho form ARCHIVE DRIVER [DATE]
+
+Arguments:
+  ARCHIVE   The path of the archive
+  DRIVER    The driver's number, 1 to 999999
+  [DATE]    A day, as 2024-03-04: only gaps before it are printed
 ";
 
 /// Arguments that name no job, and what is printed for them.
@@ -798,6 +858,8 @@ fn help_lists_commands_and_arguments(rt: HostRuntime) -> Result<(), Fail> {
     let alloc = rt.alloc();
     assert_same(&rt, help_text(alloc)?.as_str(), HELP);
     assert_same(&rt, help_of(alloc, "dump")?.as_str(), HELP_OF_DUMP);
+    assert_same(&rt, help_of(alloc, "withdraw")?.as_str(), HELP_OF_WITHDRAW);
+    assert_same(&rt, help_of(alloc, "form")?.as_str(), HELP_OF_FORM);
     assert_same(&rt, help_of(alloc, "import")?.as_str(), HELP_OF_IMPORT);
     assert_same(&rt, help_of(alloc, "drivers")?.as_str(), HELP_OF_DRIVERS);
     assert_same(&rt, help_of(alloc, "ahead")?.as_str(), HELP_OF_AHEAD);

@@ -14,7 +14,7 @@ use tacho_time::{Device, Sink, Source};
 pub(crate) type Case = (Job<'static>, &'static [u8], &'static str, &'static str);
 
 /// Jobs that have an input, in sequence.
-pub(crate) static CASES: [Case; 4] = [
+pub(crate) static CASES: [Case; 5] = [
     (
         Job::AtDesk(DeskJob {
             archive: "a.db",
@@ -22,7 +22,7 @@ pub(crate) static CASES: [Case; 4] = [
                 want: Want::Register,
                 driver: b"",
                 word: b"",
-                time: b"",
+                next: b"",
             },
         }),
         b"driver,holder,key,base,name\n17,0d4431323334353637383930313233,anna-key-1,2024-03-04,Anna Berg\n",
@@ -36,7 +36,7 @@ pub(crate) static CASES: [Case; 4] = [
                 want: Want::Import,
                 driver: b"",
                 word: b"both",
-                time: b"",
+                next: b"",
             },
         }),
         b"\x05\x20\x00\x00\x11\x0dD123456789012300\x05\x04\x00\x00\x28\x00\x00\x00\x14\x00\x00\x00\x14\x65\xe5\x0f\x00\x00\x01\x00\x64\x00\x00\x11\xe0\x19\xfe\x23\xfc\x00\x14\x00\x10\x65\xe6\x60\x80\x00\x02\x00\x00\x00\x00\x11\xe0",
@@ -50,7 +50,7 @@ pub(crate) static CASES: [Case; 4] = [
                 want: Want::Enter,
                 driver: b"17",
                 word: b"",
-                time: b"",
+                next: b"",
             },
         }),
         b"start,past,activity\n2024-03-06 00:00,2024-03-06 08:00,rest\n",
@@ -64,12 +64,26 @@ pub(crate) static CASES: [Case; 4] = [
                 want: Want::Key,
                 driver: b"17",
                 word: b"",
-                time: b"",
+                next: b"",
             },
         }),
         b"anna-key-2\r\n",
         "key 17\n",
         "key 17\n",
+    ),
+    (
+        Job::AtDesk(DeskJob {
+            archive: "a.db",
+            wish: Wish {
+                want: Want::Name,
+                driver: b"17",
+                word: b"",
+                next: b"",
+            },
+        }),
+        b"Anna Lind\n",
+        "name 17\n",
+        "name 17\n",
     ),
 ];
 
@@ -119,7 +133,7 @@ static WITHOUT_INPUT: [Job<'static>; 17] = [
             want: Want::Base,
             driver: b"17",
             word: b"2024-03-04",
-            time: b"",
+            next: b"",
         },
     }),
     Job::AtDesk(DeskJob {
@@ -128,7 +142,7 @@ static WITHOUT_INPUT: [Job<'static>; 17] = [
             want: Want::MonthReading(MonthReading::Spans),
             driver: b"17",
             word: b"2024-03",
-            time: b"",
+            next: b"",
         },
     }),
     Job::AtDesk(DeskJob {
@@ -137,7 +151,7 @@ static WITHOUT_INPUT: [Job<'static>; 17] = [
             want: Want::MonthReading(MonthReading::Gaps),
             driver: b"17",
             word: b"2024-03",
-            time: b"",
+            next: b"",
         },
     }),
     Job::AtDesk(DeskJob {
@@ -146,7 +160,7 @@ static WITHOUT_INPUT: [Job<'static>; 17] = [
             want: Want::MonthReading(MonthReading::Sheet),
             driver: b"17",
             word: b"2024-03",
-            time: b"",
+            next: b"",
         },
     }),
     Job::AtDesk(DeskJob {
@@ -155,7 +169,7 @@ static WITHOUT_INPUT: [Job<'static>; 17] = [
             want: Want::Reading(Reading::Breaches),
             driver: b"17",
             word: b"",
-            time: b"",
+            next: b"",
         },
     }),
     Job::AtDesk(DeskJob {
@@ -164,7 +178,7 @@ static WITHOUT_INPUT: [Job<'static>; 17] = [
             want: Want::Reading(Reading::Owed),
             driver: b"17",
             word: b"",
-            time: b"",
+            next: b"",
         },
     }),
     Job::AtDesk(DeskJob {
@@ -173,7 +187,7 @@ static WITHOUT_INPUT: [Job<'static>; 17] = [
             want: Want::Reading(Reading::Entries),
             driver: b"17",
             word: b"",
-            time: b"",
+            next: b"",
         },
     }),
     Job::AtDesk(DeskJob {
@@ -182,7 +196,7 @@ static WITHOUT_INPUT: [Job<'static>; 17] = [
             want: Want::File,
             driver: b"17",
             word: b"1",
-            time: b"",
+            next: b"",
         },
     }),
     Job::AtDesk(DeskJob {
@@ -191,7 +205,7 @@ static WITHOUT_INPUT: [Job<'static>; 17] = [
             want: Want::Withdraw,
             driver: b"17",
             word: b"1",
-            time: b"",
+            next: b"",
         },
     }),
     Job::AtDesk(DeskJob {
@@ -200,7 +214,7 @@ static WITHOUT_INPUT: [Job<'static>; 17] = [
             want: Want::Drivers,
             driver: b"",
             word: b"",
-            time: b"",
+            next: b"",
         },
     }),
     Job::AtDesk(DeskJob {
@@ -209,7 +223,7 @@ static WITHOUT_INPUT: [Job<'static>; 17] = [
             want: Want::Reading(Reading::Stretches),
             driver: b"17",
             word: b"",
-            time: b"",
+            next: b"",
         },
     }),
     Job::AtDesk(DeskJob {
@@ -218,16 +232,16 @@ static WITHOUT_INPUT: [Job<'static>; 17] = [
             want: Want::Reading(Reading::Debts),
             driver: b"17",
             word: b"",
-            time: b"",
+            next: b"",
         },
     }),
     Job::AtDesk(DeskJob {
         archive: "a.db",
         wish: Wish {
-            want: Want::Reading(Reading::Form),
+            want: Want::Form,
             driver: b"17",
             word: b"",
-            time: b"",
+            next: b"",
         },
     }),
     Job::AtDesk(DeskJob {
@@ -236,7 +250,7 @@ static WITHOUT_INPUT: [Job<'static>; 17] = [
             want: Want::MonthOfAll(MonthOfAll::Standing),
             driver: b"",
             word: b"2024-03",
-            time: b"",
+            next: b"",
         },
     }),
     Job::AtDesk(DeskJob {
@@ -245,7 +259,7 @@ static WITHOUT_INPUT: [Job<'static>; 17] = [
             want: Want::Forecast,
             driver: b"",
             word: b"2024-03-07",
-            time: b"12:00",
+            next: b"12:00",
         },
     }),
     Job::AtDesk(DeskJob {
@@ -254,7 +268,7 @@ static WITHOUT_INPUT: [Job<'static>; 17] = [
             want: Want::MonthOfAll(MonthOfAll::Overview),
             driver: b"",
             word: b"2024-03",
-            time: b"",
+            next: b"",
         },
     }),
     Job::AtDesk(DeskJob {
@@ -263,7 +277,7 @@ static WITHOUT_INPUT: [Job<'static>; 17] = [
             want: Want::MonthOfAll(MonthOfAll::Incidents),
             driver: b"",
             word: b"2024-03",
-            time: b"",
+            next: b"",
         },
     }),
 ];
@@ -282,7 +296,7 @@ fn jobs_without_an_input_ask_no_reader(rt: HostRuntime) -> Result<(), Fail> {
 }
 
 /// Jobs that have an input but bad arguments, and the line of the fault.
-static WRONG_ARGUMENTS: [(Job<'static>, &str); 3] = [
+static WRONG_ARGUMENTS: [(Job<'static>, &str); 4] = [
     (
         Job::AtDesk(DeskJob {
             archive: "a.db",
@@ -290,7 +304,7 @@ static WRONG_ARGUMENTS: [(Job<'static>, &str); 3] = [
                 want: Want::Import,
                 driver: b"",
                 word: b"whole",
-                time: b"",
+                next: b"",
             },
         }),
         "P1 bad part\n",
@@ -302,7 +316,7 @@ static WRONG_ARGUMENTS: [(Job<'static>, &str); 3] = [
                 want: Want::Enter,
                 driver: b"017",
                 word: b"",
-                time: b"",
+                next: b"",
             },
         }),
         "N1 bad number\n",
@@ -314,7 +328,19 @@ static WRONG_ARGUMENTS: [(Job<'static>, &str); 3] = [
                 want: Want::Enter,
                 driver: b"1000000",
                 word: b"",
-                time: b"",
+                next: b"",
+            },
+        }),
+        "N1 bad number\n",
+    ),
+    (
+        Job::AtDesk(DeskJob {
+            archive: "a.db",
+            wish: Wish {
+                want: Want::Name,
+                driver: b"",
+                word: b"",
+                next: b"",
             },
         }),
         "N1 bad number\n",
@@ -460,7 +486,7 @@ pub(crate) const LIST: Job<'static> = Job::AtDesk(DeskJob {
         want: Want::Drivers,
         driver: b"",
         word: b"",
-        time: b"",
+        next: b"",
     },
 });
 
@@ -476,7 +502,7 @@ fn drivers_are_listed_by_their_numbers(rt: HostRuntime) -> Result<(), Fail> {
                 want,
                 driver: driver.as_bytes(),
                 word: word.as_bytes(),
-                time: b"",
+                next: b"",
             },
         });
         let (_, status) = answer(rt.alloc(), &mut shelf, job, input)?;

@@ -17,7 +17,7 @@ const STRETCHES: Want = Want::Reading(Reading::Stretches);
 
 const DEBTS: Want = Want::Reading(Reading::Debts);
 
-const FORM: Want = Want::Reading(Reading::Form);
+const FORM: Want = Want::Form;
 
 const OVERVIEW: Want = Want::MonthOfAll(MonthOfAll::Overview);
 
@@ -56,7 +56,7 @@ static OF_NOBODY: [Asked; 8] = [
 ];
 
 /// Commands with bad arguments, on any archive. The driver is checked before the month.
-static IN_WRONG_WORDS: [Asked; 24] = [
+static IN_WRONG_WORDS: [Asked; 28] = [
     (STRETCHES, "0", "", "N1 bad number\n", 1),
     (STRETCHES, "017", "", "N1 bad number\n", 1),
     (STRETCHES, "1000000", "", "N1 bad number\n", 1),
@@ -65,6 +65,10 @@ static IN_WRONG_WORDS: [Asked; 24] = [
     (DEBTS, "17 ", "", "N1 bad number\n", 1),
     (FORM, "anna", "", "N1 bad number\n", 1),
     (FORM, "2024-03", "", "N1 bad number\n", 1),
+    (FORM, "0", "2024-02-30", "N1 bad number\n", 1),
+    (FORM, "17", "2024-3-4", "Z1 not of the shape\n", 1),
+    (FORM, "17", "2024-02-30", "Z2 no such date\n", 1),
+    (FORM, "17", "2000-01-02", "Z3 out of range\n", 1),
     (OVERVIEW, "", "", "Z1 not of the shape\n", 1),
     (OVERVIEW, "", "2024-3", "Z1 not of the shape\n", 1),
     (OVERVIEW, "", "2024-03-04", "Z1 not of the shape\n", 1),
@@ -96,7 +100,7 @@ static IN_WRONG_WORDS: [Asked; 24] = [
 ];
 
 /// Commands on an archive with two drivers: one holds hours of two Mondays, the other none.
-static OF_TWO: [Asked; 14] = [
+static OF_TWO: [Asked; 19] = [
     (
         STRETCHES,
         "17",
@@ -134,6 +138,41 @@ start,past,activity,author,note
 ",
         0,
     ),
+    // A day cuts the gap, ends before it, or comes after all that is held.
+    (
+        FORM,
+        "17",
+        "2024-03-06",
+        "\
+start,past,activity,author,note
+2024-03-04 17:00,2024-03-06 00:00,,,
+",
+        0,
+    ),
+    (
+        FORM,
+        "17",
+        "2024-03-04",
+        "start,past,activity,author,note\n",
+        0,
+    ),
+    (
+        FORM,
+        "17",
+        "2000-01-03",
+        "start,past,activity,author,note\n",
+        0,
+    ),
+    (
+        FORM,
+        "17",
+        "2099-12-31",
+        "\
+start,past,activity,author,note
+2024-03-04 17:00,2024-03-11 00:00,,,
+",
+        0,
+    ),
     (
         STRETCHES,
         "5",
@@ -155,6 +194,13 @@ EXAMINED TO 2024-03-11 00:00 unknown
         0,
     ),
     (FORM, "5", "", "start,past,activity,author,note\n", 0),
+    (
+        FORM,
+        "5",
+        "2024-03-18",
+        "start,past,activity,author,note\n",
+        0,
+    ),
     (STRETCHES, "6", "", "S4 unknown driver\n", 1),
     // The lower number comes first, although it was registered last.
     (
@@ -253,7 +299,7 @@ fn job_of(want: Want, driver: &'static str, word: &'static str) -> Job<'static> 
             want,
             driver: driver.as_bytes(),
             word: word.as_bytes(),
-            time: b"",
+            next: b"",
         },
     })
 }
@@ -354,7 +400,7 @@ fn a_forecast_is_of_a_minute(rt: HostRuntime) -> Result<(), Fail> {
                 want: Want::Ahead,
                 driver: driver.as_bytes(),
                 word: word.as_bytes(),
-                time: time.as_bytes(),
+                next: time.as_bytes(),
             },
         });
         let (written, status) = answer(rt.alloc(), &mut shelf, job, b"")?;
@@ -404,7 +450,7 @@ fn a_forecast_of_all_drivers_has_a_row_for_each(rt: HostRuntime) -> Result<(), F
                 want: Want::Forecast,
                 driver: b"",
                 word: word.as_bytes(),
-                time: time.as_bytes(),
+                next: time.as_bytes(),
             },
         });
         let (written, status) = answer(rt.alloc(), &mut shelf, job, b"")?;
