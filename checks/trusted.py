@@ -78,13 +78,13 @@ AUDITOR = Order(
         ("who may ask for what, and what a driver's requests look at", "tacho_http: Routes Asked Access Laws"),
         ("requests and replies as bytes", "tacho_message: Head Fields Request Length Body Reply"),
         ("what is done at an archive, and what is printed of it",
-         "tacho_desk: Commands Wants Words Arguments Tasks Doing Told Own Version; tacho_sheet: Fault"),
+         "tacho_desk: Commands Wants Words Range Arguments Tasks Doing Told Own Version; tacho_sheet: Fault"),
         DATABASE,
         ("what a card file says",
          "tacho_card: CardFile DriverActivity Chain DailyRecord ActivityChangeInfo Reading Faults"),
         LAWYER,
         ("texts that come in and go out",
-         "tacho_time: Text Reading Calendar; tacho_sheet: Rows Words Entries Driver Number Key Text Reports Done Lines"
+         "tacho_time: Text Reading Calendar; tacho_sheet: Rows Words Entries Driver Number Value Text Reports Done Lines"
          " Stretches Months Form Chart Evidence Why Ahead Cells Standing Forecast"),
         ("the program's arguments, and what it does without an archive and at one",
          "tacho_cli: Words Asked Office Files Listen Command Dump Card Holder Version Fault"),
