@@ -126,17 +126,17 @@ def table_csv() -> str:
     return written.getvalue()
 
 
-def meanings_of(source: str, commands: list[Command]) -> dict[str, str]:
-    """The description of each argument, in the order in which the commands first name them, by the text of help.rt. Raises `Stop` if it
-    doesn't describe exactly these arguments."""
+def meanings_of(source: str, commands: list[Command]) -> list[tuple[str, str]]:
+    """The descriptions of each argument, in the order in which the commands first name them, by the text of help.rt. Two kinds may have the
+    same name. Raises `Stop` if it doesn't describe exactly these arguments."""
     body = re.search(r"^fn meaning_of\(.*?^\}", source, re.MULTILINE | re.DOTALL)
     named = list(dict.fromkeys(argument.strip("[]") for command in commands for argument in command.arguments))
     names = names_of(text_of(ARGUMENTS))
     arms = re.findall(r'Argument::(\w+)(?: \| Argument::\w+)* => (?:\{\s*)?"([^"\\]+)"', body[0] if body else "")
-    found = {names[argument]: meaning for argument, meaning in arms}
-    if set(found) != set(named):
+    found = [(names[argument].strip("[]"), meaning) for argument, meaning in arms]
+    if {name for name, _ in found} != set(named):
         raise Stop(f"the descriptions of the arguments in {HELP} can't be read")
-    return {argument: found[argument] for argument in named}
+    return sorted(found, key=lambda item: named.index(item[0]))
 
 
 def escaped(text: str) -> str:
@@ -203,7 +203,7 @@ def manual(version: str, seconds: int) -> str:
         f"{bold('help')} [{italic('COMMAND')}]",
         escaped("Prints these commands, or how a command is used"),
         ".SH ARGUMENTS",
-        *listed([(italic(argument), about) for argument, about in meanings_of(text_of(HELP), commands).items()]),
+        *listed([(italic(argument), about) for argument, about in meanings_of(text_of(HELP), commands)]),
         ".SH EXIT STATUS",
         *listed([(bold(str(status)), about) for status, about in STATUSES.items()]),
         ".SH FILES",

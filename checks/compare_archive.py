@@ -11,7 +11,7 @@ import sys
 import tempfile
 
 from inputs import random_cards, random_commands
-from lib import counting, seeds
+from lib import counting, office_rows, seeds
 from lib.office_rows import (
     ADDED, ANNA, BOTH, BREACH, DAY, DAY_OFF, DAY_OFF_LINE, EXAMINED, FREE_DAYS, FREE_LINE, LONG_NOTE, NO_AUTHOR, NOON, NOTHING,
     OTHER_DAY, SATURDAY, SPANS, bert, done, hours, refused,
@@ -176,6 +176,8 @@ ROWS = {
         done("enter 17", "entered 1 to 1\n", hours(REST)),
         refused("withdraw 17 2", "S7 unknown entry"),
     ],
+    **{name: office_rows.ROWS[name] for name in ["names", "ranges of entries", "ranges that are none", "a range beside a file"]},
+    **{name: office_rows.ROWS[name] for name in ["a form to a day", "a form to a day by the base", "a form to the last day"]},
 }
 
 # In an archive that has Anna and 3,000 entries of a day each, without a gap, from 3 January 2000 on: work and rest in turn.
@@ -198,6 +200,16 @@ ROWS_AFTER_ENTRIES = {
         done("import both", "added driver 17 number 1\n", SATURDAY),
         refused("withdraw 17 3001", "S8 already withdrawn"),
         done("entries 17", "".join([*FULL_ENTRIES, LAST_ENTRY])),
+    ],
+    "a range": [
+        refused("withdraw 17 1 3001", "S7 unknown entry"),
+        done("withdraw 17 101 3000", "withdrawn 101 to 3000\n"),
+        refused("withdraw 17 1 3001", "S8 already withdrawn"),
+        done("entries 17", "".join([*FULL_ENTRIES[:100], *(line.replace("kept", "withdrawn") for line in FULL_ENTRIES[100:])])),
+        done("gaps 17 2000-04", f"{DAYS[100]} 00:00 2000-05-01 00:00\n"),
+        done("withdraw 17 1 100", "withdrawn 1 to 100\n"),
+        done("gaps 17 2000-04", "2000-04-01 00:00 2000-05-01 00:00\n"),
+        ADDED,
     ],
 }
 

@@ -60,11 +60,13 @@ NO_COMMANDS = [
     ["enter", "PATH"],
     ["enter", "PATH", "17", "17"],
     ["withdraw", "PATH", "17"],
-    ["withdraw", "PATH", "17", "1", "1"],
+    ["withdraw", "PATH", "17", "1", "2", "3"],
     ["base", "PATH", "17"],
     ["base", "PATH", "17", "2024-03-11", "1"],
     ["key", "PATH"],
     ["key", "PATH", "17", "anna-key-2"],
+    ["name", "PATH"],
+    ["name", "PATH", "17", "Anna Lind"],
     ["spans", "PATH", "17"],
     ["spans", "PATH", "17", "2024-03", "2024-04"],
     ["gaps", "PATH", "17"],
@@ -99,7 +101,7 @@ NO_COMMANDS = [
     ["incidents", "PATH"],
     ["incidents", "PATH", "2024-03", "17"],
     ["form", "PATH"],
-    ["form", "PATH", "17", "2024-03"],
+    ["form", "PATH", "17", "2024-03-11", "17"],
     ["card"],
     ["card", "both", "17"],
     ["version", "PATH"],
@@ -196,7 +198,8 @@ def of_arguments(program):
 # For each kind of argument of a task a good text, a bad one, and the fault of the bad one, which no other kind has for it.
 KINDS = {
     "driver": ("17", "0", b"N1 bad number\n"),
-    "number": ("1", "2024-03", b"N1 bad number\n"),
+    "number": ("2", "2024-03", b"N1 bad number\n"),
+    "last": ("2", "1", b"N2 wrong order\n"),
     "part": ("both", "1", b"P1 bad part\n"),
     "date": ("2024-03-04", "2024-02-30", b"Z2 no such date\n"),
     "month": ("2024-03", "2024-13", b"Z2 no such date\n"),
@@ -310,7 +313,7 @@ def of_inputs(program):
     with tempfile.TemporaryDirectory() as folder:
         desk = Desk(program, folder)
         desk.prepare(WITH_DAY)
-        for words in ["register", "import both", "enter 17", "key 17"]:
+        for words in ["register", "import both", "enter 17", "key 17", "name 17"]:
             source = os.open(folder, os.O_RDONLY)
             made = subprocess.run(desk.words(words.split()), stdin=source, capture_output=True)
             os.close(source)

@@ -5,7 +5,8 @@ of the form for gaps with expected outputs and with the slow office; and those o
 The folders of checks/readings have commands, their input files, and what the readings print after them, computed by a program that shares
 no code with this repository. Of a chart they have the lines of lib/charts.py. Then come random archives of two drivers: weeks with gaps and
 crew at any place, often at a Monday's first minute or beside it; bases before, within and after what is held; and the last minutes of 2099.
-Each form is filled in and entered: then no gap is left. Arguments: the program and `tool_script`. The last line is 'N passed, M failed'."""
+Each form is filled in and entered: then no gap is left. A form to a day is what the whole form has before that day. Arguments: the program
+and `tool_script`. The last line is 'N passed, M failed'."""
 import csv
 import datetime
 import os
@@ -27,7 +28,7 @@ from slow import slow_office, slow_reader
 SEEDS = seeds.tried(80)
 PROCESSES = 2
 DAY, WEEK = 1440, 10_080
-LAST_DAY = 47_481  # 2099-12-31
+FIRST_DAY, LAST_DAY = 10_959, 47_481  # 2000-01-03 and 2099-12-31
 NUMBERS = [900, 17]
 NAMES = [b"Anna Berg", "Zo\u00eb <&> \uffff\ufffe".encode()]  # the second has characters that SVG escapes or replaces
 
@@ -68,7 +69,7 @@ class Weeks:
     def __init__(self, chance, last):
         self.chance = chance
         self.count = chance.choice([1, 2, 3, 5])
-        monday = chance.choice([19_786, 19_814, last - 7 * self.count, 10_959])
+        monday = chance.choice([19_786, 19_814, last - 7 * self.count, FIRST_DAY])
         self.first = monday - (monday - 4) % 7
         self.past = min(self.first + 7 * self.count, LAST_DAY + 1)
         self.marks = {}
@@ -123,7 +124,7 @@ class Weeks:
     def base(self):
         """A base before what is held, at its first week, within it, or after it."""
         later = 7 * self.chance.choice([-1, 0, 0, 0, 0, 1, 2, self.count])
-        return max(10_959, min(self.first + later, LAST_DAY - 2 - (LAST_DAY - 2 - 4) % 7))
+        return max(FIRST_DAY, min(self.first + later, LAST_DAY - 2 - (LAST_DAY - 2 - 4) % 7))
 
     def months(self):
         """The months of its first and its last day, and the next."""
@@ -147,11 +148,12 @@ def commands_of(seed):
         commands.append((list(command[0]), command[1]))
         return office.answer(*commands[-1])[0]
 
-    months, pasts = set(), []
+    months, pasts, cuts = set(), [], {}
     for place, number in enumerate(NUMBERS):
         weeks = Weeks(chance, LAST_DAY + 1)
         months.update(weeks.months())
         pasts.append(min(weeks.past, LAST_DAY))
+        cuts[str(number)] = date_text(max(FIRST_DAY, min(weeks.first + chance.randrange(-8, 7 * weeks.count + 8), LAST_DAY)))
         holder = random_cards.HOLDERS[place]
         add(["register"], driver_csv(number, holder, KEYS[place], weeks.base(), NAMES[place]))
         if chance.random() < 0.95:
@@ -170,6 +172,7 @@ def commands_of(seed):
             add(["files", number], b"")
             add(["ahead", number, *minute], b"")
             forms.append((number, add(["form", number], b"")))
+            add(["form", number, cuts[number]], b"")
         for month in sorted(months):
             for number in map(str, NUMBERS):
                 add(["chart", number, month], b"")
@@ -199,7 +202,7 @@ def of_forms(seed):
     forms = []
     for words, given in commands:
         told, status = office.answer(words, given)
-        if words[0] == "form":
+        if words[0] == "form" and len(words) == 2:
             forms.append(told)
         if words[0] == "enter":
             yield f"seed {seed}: a form is entered", status, 0
@@ -245,6 +248,14 @@ def lacking_in(form):
     return [str(len(starts)), str(sum(minutes_from(*row) for row in rows)), *starts[:1]]
 
 
+def front_of(form, date):
+    """The rows of a form before a day; one that goes past it is cut."""
+    head, *rows = form.splitlines()
+    cells = [row.split(",", 2) for row in rows]
+    kept = [f"{start},{min(past, f'{date} 00:00')},{rest}" for start, past, rest in cells if start < date]
+    return "".join(f"{line}\n" for line in [head, *kept])
+
+
 def limits_in(ahead):
     """The cells that a forecast has from `start` on, by what `ahead` tells: they are empty where that has no forecast."""
     def told(line):
@@ -272,6 +283,10 @@ def of_all_drivers(program, seed, commands):
         for row in forecast:
             number = row["driver"]
             yield f"{name}: the forecast of driver {number}", list(row.values())[4:], limits_in(told[f"ahead {number} {minute}"])
+        for words in told:
+            if words.startswith("form ") and words.count(" ") == 2:
+                whole, date = words.rsplit(" ", 1)
+                yield f"{name}: {words}", told[words], front_of(told[whole], date)
         for month in counts:
             standing = rows_in(told[f"standing {month}"])
             before = f"{datetime.date.fromisoformat(f'{month}-01') - datetime.timedelta(days=1)}"[:7]

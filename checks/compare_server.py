@@ -29,9 +29,9 @@ from lib.advice import without_any
 from lib.office import WITH_ANNA, Desk
 from lib.programs import version_lines
 from lib.office_rows import (
-    ANNA, BERT, BREACH, CARD, DAY, DAY_OFF, DAY_OFF_LINE, EXAMINED, FORECAST_HEAD, FREE_DAYS, FREE_LINE, GAPS, HOLDER, HOURS_HEAD,
-    INCIDENT_HEAD, LARGEST_DAY, LARGEST_HOURS, LIMIT, LONG_NOTE, MARCH, NO_AUTHOR, OVERVIEW_HEAD, SATURDAY, SIGNED_HEAD, SPANS,
-    STANDING_BERT, STANDING_HEAD, UNSEEN,
+    ANNA, BERT, BREACH, CARD, CUT_GAP, DAY, DAY_OFF, DAY_OFF_LINE, EXAMINED, FIRST_GAP, FORECAST_HEAD, FREE_DAYS, FREE_LINE, GAPS, HOLDER,
+    HOURS_HEAD, INCIDENT_HEAD, LARGEST_DAY, LARGEST_HOURS, LIMIT, LONG_NOTE, MARCH, NO_AUTHOR, NO_NAMES, OVERVIEW_HEAD, SATURDAY,
+    SECOND_GAP, SIGNED_HEAD, SPANS, STANDING_BERT, STANDING_HEAD, THREE_DAYS, UNSEEN, anna, rests,
 )
 from lib.server import (
     ADDED, BAD, BAD_KEY, BAD_NUMBER, BREACHES, COUNTED, CSV, DRIVER, ENDED, FORBIDDEN, HOST, LARGE_HEAD, NO_DATE, NO_LENGTH, NO_PORT,
@@ -41,7 +41,7 @@ from lib.server import (
 from slow import slow_server
 
 SEEDS = seeds.tried(80)
-SLOW_SEEDS = 20
+SLOW_SEEDS = 40
 PROCESSES = 2
 
 # Worked rows: what is asked, and the replies of which one is right.
@@ -87,6 +87,7 @@ def padded(length, end=b"\r\n\r\n"):
 WITH_ENTRY = [*WITH_ANNA, (["import", "both"], DAY), (["enter", "17"], FREE_DAYS)]
 WITH_BOTH = [*WITH_ENTRY, (["register"], BERT)]
 OTHER_DRIVER = "bert-key-1"
+ZOE = "Zo\u00eb"
 MONTH = "2024-03"
 
 
@@ -106,12 +107,13 @@ FORECAST = (
     "B9 Art 8(6) until 2024-03-17 23:59 left 299:59\n"
 )
 MINUTE = "2024-03-05/12:00"
-MISSING = b"2024-03-04 17:00,2024-03-05 00:00,,,\n2024-03-05 08:00,2024-03-09 00:00,,,\n"
+DATE = "2024-03-06"
 OF_ANNA = {
     "stretches": f"FROM 2024-03-04\n{BREACH}{EXAMINED}{UNSEEN}",
     "debts": f"FROM 2024-03-04\n{EXAMINED}{UNSEEN}",
     "files": f"1 both 67 2024-03-04 00:00 2024-03-05 08:00 {hashlib.sha256(DAY).hexdigest()}\n",
-    "form": SIGNED_HEAD + MISSING,
+    "form": SIGNED_HEAD + FIRST_GAP + SECOND_GAP,
+    f"form/{DATE}": SIGNED_HEAD + FIRST_GAP + CUT_GAP,
     f"why/{MONTH}": BREACH + SHOWN,
     f"ahead/{MINUTE}": f"FROM 2024-03-04\n{EXAMINED}{UNSEEN}",
     f"chart/{MONTH}": chart_of("17"),
@@ -122,6 +124,7 @@ OF_BERT = {
     "debts": NOTHING_EXAMINED,
     "files": "",
     "form": SIGNED_HEAD,
+    f"form/{DATE}": SIGNED_HEAD,
     f"why/{MONTH}": "",
     f"ahead/{MINUTE}": FORECAST,
     f"chart/{MONTH}": chart_of("18"),
@@ -174,6 +177,12 @@ def bad_months(path, key):
     faults = {"2024-3": "Z1 not of the shape", "2024-13": "Z2 no such date", "1999-12": "Z3 out of range", "2100-01": "Z3 out of range"}
     return [row(f"GET {path.replace(MONTH, text)}", key, line("400 Bad Request", len(fault) + 1, fault)) for text, fault in faults.items()]
 
+
+# By the end of a path: the fault of a day.
+BAD_DATES = {
+    MONTH: "Z1 not of the shape", "2024-3-6": "Z1 not of the shape", "2024-03-06?all": "Z1 not of the shape", "17": "Z1 not of the shape",
+    "2024-02-30": "Z2 no such date", "2100-02-30": "Z2 no such date", "2000-01-02": "Z3 out of range", "2100-01-01": "Z3 out of range",
+}
 
 # A forecast that goes past 2099.
 NO_FORECAST = f"17,Anna Berg,2024-03-04,2024-03-11 00:00{14 * ','}\n18,Bert,2024-02-05,{14 * ','}\n"
@@ -236,6 +245,49 @@ ROWS = {
         row("GET /me/entries", "anna-key-2", told("200 OK", 0, "")),
         posted("/drivers/17/key", OFFICE, DRIVER.encode(), line("200 OK", 7, "key 17")),
     ],
+    "another name": [
+        row("GET /drivers/17/name", OFFICE, OTHER_METHOD),
+        row("POST /drivers/17/name", OFFICE, NO_LENGTH),
+        row("POST /drivers/17/name", OFFICE, TOO_LARGE, f"{COUNTED}262145"),
+        posted("/drivers/17/name", DRIVER, b"Anna Lind\n", FORBIDDEN),
+        posted("/me/name", DRIVER, b"Anna Lind\n", NOT_FOUND),
+        posted("/drivers/17/name/", OFFICE, b"Anna Lind\n", NOT_FOUND),
+        posted("/drivers/017/name", OFFICE, b"Lind, Anna", BAD_NUMBER),
+        *[posted("/drivers/17/name", OFFICE, text, line("422 Unprocessable Entity", 22, "E9 bad value for name")) for text in NO_NAMES],
+        posted("/drivers/18/name", OFFICE, b"Lind, Anna", line("422 Unprocessable Entity", 22, "E9 bad value for name")),
+        posted("/drivers/18/name", OFFICE, b"Anna Lind", line("404 Not Found", 18, "S4 unknown driver")),
+        read("/me/driver", DRIVER, anna("Anna Berg")),
+        posted("/drivers/17/name", OFFICE, f"{ZOE}\r\n".encode(), line("200 OK", 8, "name 17")),
+        read("/me/driver", DRIVER, anna(ZOE)),
+        posted("/drivers", OFFICE, BERT, line("201 Created", 14, "registered 18")),
+        posted("/drivers/18/name", OFFICE, ZOE.encode(), line("200 OK", 8, "name 18")),
+        read("/drivers", OFFICE, f"{anna(ZOE)}18 {HOLDER[:-1]}4 2024-02-05 0 0 {ZOE}\n"),
+        posted("/drivers/17/name", OFFICE, b"Anna Berg", line("200 OK", 8, "name 17")),
+    ],
+    "ranges of entries": [
+        posted("/drivers/17/entries", OFFICE, THREE_DAYS, line("201 Created", 15, "entered 1 to 3")),
+        *[row(f"POST /drivers/17/withdraw/{end}", OFFICE, NOT_FOUND) for end in ["", "1/", "/1", "1/2/", "1/2/3"]],
+        row("GET /drivers/17/withdraw/1/2", OFFICE, OTHER_METHOD),
+        row("POST /drivers/17/withdraw/2/1", DRIVER, FORBIDDEN),
+        row("POST /me/withdraw/1/2", DRIVER, NOT_FOUND),
+        *[row(f"POST /drivers/{end}", OFFICE, line("400 Bad Request", 15, "N2 wrong order"))
+          for end in ["17/withdraw/2/1", "17/withdraw/10/9", "18/withdraw/1000000/1"]],
+        *[row(f"POST /drivers/{end}", OFFICE, BAD_NUMBER)
+          for end in ["017/withdraw/2/1", "17/withdraw/0/1", "17/withdraw/2/0", "17/withdraw/2/01", "17/withdraw/1/1000001",
+                      "18/withdraw/1/x"]],
+        row("POST /drivers/18/withdraw/1/2", OFFICE, line("404 Not Found", 18, "S4 unknown driver")),
+        row("POST /drivers/17/withdraw/2/4", OFFICE, line("404 Not Found", 17, "S7 unknown entry")),
+        row("POST /drivers/17/withdraw/1/2", OFFICE, BAD, f"{COUNTED}1", body=b"\n"),
+        row("POST /drivers/17/withdraw/2/2", OFFICE, line("200 OK", 17, "withdrawn 2 to 2")),
+        row("POST /drivers/17/withdraw/1/4", OFFICE, line("409 Conflict", 21, "S8 already withdrawn")),
+        read("/me/entries", DRIVER, rests("kept", "withdrawn", "kept")),
+        row("POST /drivers/17/withdraw/3/3", OFFICE, line("200 OK", 17, "withdrawn 3 to 3"), f"{COUNTED}0"),
+        row("POST /drivers/17/withdraw/1/3", OFFICE, line("409 Conflict", 21, "S8 already withdrawn")),
+        read("/drivers/17/entries", OFFICE, rests("kept", "withdrawn", "withdrawn")),
+        posted("/drivers/17/entries", OFFICE, THREE_DAYS, line("201 Created", 15, "entered 4 to 6")),
+        row("POST /drivers/17/withdraw/4/6", OFFICE, line("200 OK", 17, "withdrawn 4 to 6")),
+        read("/me/entries", DRIVER, rests("kept", "withdrawn", "withdrawn") + rests("withdrawn", "withdrawn", "withdrawn", first=4)),
+    ],
     "the line of a driver": [
         WITH_DAY,
         posted("/drivers", OFFICE, BERT, line("201 Created", 14, "registered 18")),
@@ -264,7 +316,7 @@ ROWS = {
     ],
     "paths near what can be read": [
         *[row(f"GET {path}/", OFFICE, NOT_FOUND) for path in [*FOR_OFFICE, *WITHOUT_NUMBER]],
-        *[row(f"GET {path}?all", OFFICE, NOT_FOUND) for path in FOR_OFFICE if not path.endswith((MONTH, MINUTE))],
+        *[row(f"GET {path}?all", OFFICE, NOT_FOUND) for path in FOR_OFFICE if not path.endswith((MONTH, MINUTE, DATE))],
         *[row(f"GET {path.removesuffix(MONTH)}", OFFICE, NOT_FOUND) for path in FOR_OFFICE if path.endswith(MONTH)],
         *[row(f"GET {path.removesuffix(f'/{MONTH}')}", DRIVER, NOT_FOUND)
           for path in [*FOR_OFFICE, *WITHOUT_NUMBER] if path.endswith(MONTH)],
@@ -273,7 +325,8 @@ ROWS = {
         *[row(f"GET {path.replace('17', '')}", OFFICE, NOT_FOUND) for path in WITH_NUMBER],
         *[row(f"GET /me{path}", DRIVER, NOT_FOUND) for path in OF_ALL],
         *[row(f"GET /drivers/17{path}", OFFICE, NOT_FOUND) for path in OF_ALL],
-        *[row(f"GET {path}/{MONTH}", OFFICE, NOT_FOUND) for path in ["/drivers/17/stretches", "/drivers/17/form", "/me/debts", "/me/form"]],
+        *[row(f"GET {path}/{MONTH}", OFFICE, NOT_FOUND)
+          for path in ["/drivers/17/stretches", f"/drivers/17/form/{DATE}", "/me/debts", f"/me/form/{DATE}"]],
         row("GET /me/files/1/1", DRIVER, NOT_FOUND),
         row("GET /Overview/2024-03", OFFICE, NOT_FOUND),
     ],
@@ -283,6 +336,11 @@ ROWS = {
         *[row(f"GET {path.replace('17', '18')}", OFFICE, line("404 Not Found", 18, "S4 unknown driver")) for path in WITH_NUMBER],
         *[bad for path in FOR_OFFICE if path.endswith(MONTH) for bad in bad_months(path, OFFICE)],
         *[bad for path in WITHOUT_NUMBER if path.endswith(MONTH) for bad in bad_months(path, DRIVER)],
+        *[row(f"GET /{who}/form/{text}", key, line("400 Bad Request", len(fault) + 1, fault))
+          for who, key in (("drivers/17", OFFICE), ("me", DRIVER)) for text, fault in BAD_DATES.items()],
+        row("GET /drivers/0/form/2024-02-30", OFFICE, BAD_NUMBER),
+        row("GET /drivers/18/form/2024-02-30", OFFICE, NO_DATE),
+        row("GET /drivers/18/form/2024-02-30", DRIVER, FORBIDDEN),
         *bad_minutes("/drivers/17/ahead", OFFICE),
         *bad_minutes("/me/ahead", DRIVER),
         *bad_minutes("/forecast", OFFICE),
@@ -528,6 +586,9 @@ LIBRARY = [
     *[("GET", f"/drivers/17/{end}", OFFICE, None, 200, "OK", text) for end, text in OF_ANNA.items()],
     *[("GET", f"/me/{end}", DRIVER, None, 200, "OK", text) for end, text in OF_ANNA.items()],
     ("POST", "/drivers/17/withdraw/1", OFFICE, None, 200, "OK", "withdrawn 1\n"),
+    ("POST", "/drivers/17/withdraw/1/1", OFFICE, None, 409, "Conflict", "S8 already withdrawn\n"),
+    ("POST", "/drivers/17/key", OFFICE, DRIVER.encode(), 200, "OK", "key 17\n"),
+    ("POST", "/drivers/17/name", OFFICE, b"Anna Berg\n", 200, "OK", "name 17\n"),
     ("POST", "/drivers/17/base/2024-03-04", OFFICE, None, 200, "OK", "base 2024-03-04\n"),
     *[("GET", f"/drivers/17/{path}", OFFICE, None, 200, "OK", text) for path, text in OF_ONE.items()],
     *[("GET", f"/me/{path}", DRIVER, None, 200, "OK", text) for path, text in OF_ONE.items()],

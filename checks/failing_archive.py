@@ -50,9 +50,12 @@ CASES = {
     "signed hours": (WITH_DAY, SIGNED),
     "hours without an author": ([REGISTER], (["enter", "17"], NO_AUTHOR)),
     "a withdrawal": (WITH_HOURS, (["withdraw", "17", "2"], b"")),
+    "a withdrawal of two": (WITH_HOURS, (["withdraw", "17", "1", "2"], b"")),
+    "a withdrawal of one too many": (WITH_HOURS, (["withdraw", "17", "1", "3"], b"")),
     "another base": ([REGISTER], (["base", "17", "2024-03-11"], b"")),
     "another key": ([REGISTER], (["key", "17"], b"anna-key-2\n")),
     "a taken key": ([REGISTER, OTHER], (["key", "17"], b"carl-key-1")),
+    "another name": ([REGISTER], (["name", "17"], b"Anna Lind\n")),
     "a timeline": (WITH_DAY, (["spans", "17", "2024-03"], b"")),
     "a sheet": (WITH_DAY, (["sheet", "17", "2024-03"], b"")),
     "a chart": (WITH_DAY, (["chart", "17", "2024-03"], b"")),
@@ -69,6 +72,7 @@ CASES = {
     "an overview": ([*WITH_HOURS, GAP, OTHER], (["overview", "2024-03"], b"")),
     "incidents": ([*WITH_HOURS, GAP, OTHER], (["incidents", "2024-03"], b"")),
     "a form": ([*WITH_HOURS, GAP], (["form", "17"], b"")),
+    "a form to a day": ([*WITH_HOURS, GAP], (["form", "17", "2024-03-08"], b"")),
 }
 
 

@@ -16,13 +16,14 @@ from lib import counting, pools, programs
 from lib.failing import (
     ANNA, CARL, CONTRADICT, ENTER, GIVEN_UP, NO_FILE, OF_SCHEMA_1, SIGNED, STORE_FAILED, UNSOUND, WITH_DAY, WITH_HOURS, Office,
 )
-from lib.office_rows import HOLDER, NOON, OTHER_DAY
+from lib.office_rows import FREE_DAYS, HOLDER, NOON, OTHER_DAY
 
 PROCESSES = 2
 STEP = 43  # one in 43 of the allocations of an opening is refused
 BERT = (["register"], f"driver,holder,key,base,name\n18,{HOLDER},bert-key-1,2024-03-04,Bert Holm\n".encode())
 GAP = (["enter", "17"], b"start,past,activity\n2024-03-11 00:00,2024-03-11 07:00,rest\n2024-03-11 07:00,2024-03-11 12:00,drive\n")
 WITH_GAP = [*WITH_HOURS, GAP]
+WITH_THREE = [*WITH_HOURS, (["enter", "17"], FREE_DAYS)]
 
 # What an archive was given before, and the command.
 CASES = {
@@ -35,9 +36,13 @@ CASES = {
     "hours in another order": (WITH_DAY, CONTRADICT),
     "signed hours": (WITH_DAY, SIGNED),
     "a withdrawal": (WITH_HOURS, (["withdraw", "17", "2"], b"")),
+    "a withdrawal of three": (WITH_THREE, (["withdraw", "17", "1", "3"], b"")),
+    "a withdrawal of one too many": (WITH_THREE, (["withdraw", "17", "1", "4"], b"")),
     "another base": (WITH_DAY, (["base", "17", "2024-03-11"], b"")),
     "another key": (WITH_DAY, (["key", "17"], b"anna-key-2\n")),
     "a taken key": ([ANNA, CARL], (["key", "17"], b"carl-key-1")),
+    "another name": (WITH_DAY, (["name", "17"], b"Anna Lind\r\n")),
+    "a name of nobody": ([ANNA], (["name", "18"], b"Anna Lind")),
     "a migration": (OF_SCHEMA_1, (["migrate"], b"")),
     "an old archive": (OF_SCHEMA_1, (["drivers"], b"")),
     "spans": (WITH_HOURS, (["spans", "17", "2024-03"], b"")),
@@ -58,14 +63,15 @@ CASES = {
     "an overview": ([*WITH_GAP, CARL], (["overview", "2024-03"], b"")),
     "incidents": ([*WITH_GAP, CARL], (["incidents", "2024-03"], b"")),
     "a form": (WITH_GAP, (["form", "17"], b"")),
+    "a form to a day": (WITH_GAP, (["form", "17", "2024-03-08"], b"")),
     "a bad month": (WITH_HOURS, (["sheet", "17", "2024-13"], b"")),
 }
 
 # Those of a disk that stops, and for how many calls it does so; and the making of an archive.
 NEW = {"a new archive": (NO_FILE, (["init"], b""))}
 
-STOPPED = [*NEW, "a first driver", "a first download", "signed hours", "a withdrawal", "another base", "another key"]
-STOPPED += ["a migration", "an old archive", "a sound archive", "an unsound archive"]
+STOPPED = [*NEW, "a first driver", "a first download", "signed hours", "a withdrawal", "a withdrawal of three", "another base"]
+STOPPED += ["another key", "another name", "a migration", "an old archive", "a sound archive", "an unsound archive"]
 STOPS = {"the disk stopped at": None, "the disk failed": 1}
 
 

@@ -40,7 +40,8 @@ OLD = (b"S13 old archive\n", 1, b"")
 MIGRATED = (b"migrated\n", 0, b"")
 
 # What is refused before its arguments and its input are looked at.
-BAD_COMMANDS = ["import whole", "enter 017", "withdraw 17 0", "base 17 2024-02-30", "sheet 17 2024-13", "breaches 18", "file 17 2"]
+BAD_COMMANDS = ["import whole", "enter 017", "withdraw 17 0", "withdraw 17 2 1", "base 17 2024-02-30", "name 017", "form 17 2024-02-30"]
+BAD_COMMANDS += ["sheet 17 2024-13", "breaches 18", "file 17 2"]
 
 # The readings of all drivers.
 OF_ALL = [["drivers"], ["forecast", "2024-03-05", "12:00"], ["standing", "2024-03"]]
@@ -202,8 +203,8 @@ def of_worked(program, name):
 def readings_of(driver, months):
     """The readings of a driver: the arguments of each."""
     words = [f"{word} {{}} {month}" for word in ["spans", "gaps", "sheet", "chart", "why"] for month in months]
-    words += [f"ahead {{}} {months[-1]}-05 12:00"]
-    words += ["breaches {}", "owed {}", "entries {}", "files {}", "file {} 1", "file {} 2", "withdraw {} 1"]
+    words += [f"ahead {{}} {months[-1]}-05 12:00", f"form {{}} {months[-1]}-05"]
+    words += ["breaches {}", "owed {}", "entries {}", "files {}", "file {} 1", "file {} 2", "withdraw {} 1", "withdraw {} 1 2"]
     return [text.format(driver).split(" ") for text in words]
 
 

@@ -79,7 +79,8 @@ for word in words:
     elif word == "-X":
         method = next(words)
     elif word == "--data-binary":
-        body = open(next(words)[1:], "rb").read()
+        given = next(words)
+        body = open(given[1:], "rb").read() if given.startswith("@") else given.encode()
     elif word == "-o":
         output = next(words)
     elif word == "-w":
@@ -423,12 +424,19 @@ def forms(office):
     """The form for the gaps, filled in and entered."""
     form = office.block("start,past,activity,author,note\n2024-03-04 17:00,2024-03-05 00:00,,,")
     yield "the form of the page", office.told("form", "17"), form
+    *before, last = form.splitlines(keepends=True)
+    yield "the last gap of the page", last[:16], "2024-03-18 00:00"
+    yield office.typed("tacho form archive.db 17 2024-03-18", "".join(before))
     yield office.typed("tacho form archive.db 17 > form-17.csv\nsed", "")
     yield "the form with the author", office.read("filled-17.csv"), form.replace(",,,\n", ",,Eva Lund,\n")
     yield "the form with the author alone", office.told("enter", "17", given=office.read("filled-17.csv").encode()), \
         "E6 no such activity in row 2\n"
     office.save("start,past,activity,author,note\n2024-03-04 17:00")
     yield office.typed("tacho enter archive.db 17 < filled-17.csv", "entered 5 to 10\n")
+    with undone(office):
+        told = [office.told("withdraw", "17", *numbers) for numbers in (["10"], ["5", "10"], ["5", "9"])]
+        yield "the form withdrawn", told, ["withdrawn 10\n", "S8 already withdrawn\n", "withdrawn 5 to 9\n"]
+        yield "the form after it", office.told("form", "17"), form
     told = office.told("form", "17") + office.told("breaches", "17").splitlines(keepends=True)[-1]
     yield "no gap is left", told, "start,past,activity,author,note\nEXAMINED TO 2024-03-18 14:00 unknown\n"
     for given, line in ((",,,", "E6 no such activity in row 2\n"), (",rest,,", "E10 bad author in row 2\n")):
@@ -684,6 +692,9 @@ def keys(office):
         yield office.typed("tr -dc a-zA-Z0-9 < /dev/urandom", "key 17\n")
         other = secret_of(office)
         yield "a key that nobody knows", (re.fullmatch("[a-zA-Z0-9]{32}", other) is not None, f"{other}\n" == key), (True, False)
+        name = re.search('`(echo "Anna Lind"[^`]*)`', page())[1]
+        yield "another name", office.type(name), ("name 17\n", 0)
+        yield "the driver by their new name", office.told("drivers", "17").endswith(" Anna Lind\n"), True
 
 
 def asked_month(office):
@@ -705,6 +716,16 @@ def asked_key(office):
     yield "the key before", office.type(again), ("key 17\n", 0)
 
 
+def asked_name(office):
+    """Another name for a driver by a request, and then the one that they had."""
+    ask = "curl -sS -H @office.head http://127.0.0.1:8017/drivers/17"
+    before, _ = office.type(ask)
+    yield office.typed("curl -H @office.head --data-binary 'Anna Lind'", "name 17\n")
+    yield "the driver by their new name, by a request", office.type(ask), (before.replace("Anna Berg", "Anna Lind"), 0)
+    again = "echo 'Anna Berg' | curl -sS -H @office.head --data-binary @- http://127.0.0.1:8017/drivers/17/name"
+    yield "the name before", office.type(again), ("name 17\n", 0)
+
+
 def services(office):
     """The service, by its unit: made, asked, backed up, and restored."""
     root = office.root
@@ -722,6 +743,7 @@ def services(office):
     yield office.typed("(umask 077; echo \"x-key:", "repeated driver 17\n")
     yield from asked_month(office)
     yield from asked_key(office)
+    yield from asked_name(office)
     names = list(DOWNLOADS)[:8]
     loop = next(block for block in office.left if block.startswith(FOLDER_LOOP))
     yield office.typed(FOLDER_LOOP, *folder_text(names))

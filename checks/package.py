@@ -89,8 +89,9 @@ def statuses(program: str) -> list[int]:
 
 
 def in_braces(path: str) -> str:
-    """The path of the slow server with the names of the table for what is in braces: the driver, a time, and the other argument."""
-    return re.sub(r"\{(?!driver\}|time\})\w+\}", "{word}", path.replace("/drivers/{n}", "/drivers/{driver}"))
+    """The path of the slow server with the names of the table for what is in braces: the driver, the other argument, and that after it."""
+    path = re.sub(r"\{(time|last)\}", "{next}", path.replace("/drivers/{n}", "/drivers/{driver}"))
+    return re.sub(r"\{(?!driver\}|next\})\w+\}", "{word}", path)
 
 
 def man_page(program: str) -> Comparisons:
@@ -106,8 +107,8 @@ def man_page(program: str) -> Comparisons:
     yield "the forms of the commands in the man page", [form for form, _ in shown[:-1]], forms
     yield "the commands of the man page", [about for form, about in shown[:-1] if not form.endswith("...")], [about for _, about in commands]
     yield "the last command of the man page", [term for term, _ in shown[-1:]], ["help [COMMAND]"]
-    arguments = {word.strip("[]"): about for name, _ in commands for word, about in rows_of(helped(program, name), "Arguments")}
-    yield "the arguments of the man page", sorted(sections.get("ARGUMENTS", [])), sorted(arguments.items())
+    arguments = {(word.strip("[]"), about) for name, _ in commands for word, about in rows_of(helped(program, name), "Arguments")}
+    yield "the arguments of the man page", sorted(sections.get("ARGUMENTS", [])), sorted(arguments)
     yield "the statuses of the man page", [int(term) for term, _ in sections.get("EXIT STATUS", [])], statuses(program)
     yield "the version in the man page", f'"tacho {version()}"\n' in told.decode(), True
     if shutil.which("groff"):
@@ -151,8 +152,8 @@ def requests_in(item: str) -> set[tuple[str, str]]:
 
 def place_of(path: str) -> str:
     """A path of examples with names of its variable parts."""
-    path = path.replace("/17", "/{driver}").replace("/both", "/{word}").replace("/12:00", "/{time}")
-    return re.sub(r"/\d[\d-]*(?=$|/\{time\})", "/{word}", path)
+    path = re.sub(r"(/\d[\d-]*)/[\d:]+$", r"\1/{next}", path.replace("/17", "/{driver}").replace("/both", "/{word}"))
+    return re.sub(r"/\d[\d-]*(?=$|/\{next\})", "/{word}", path)
 
 
 def lists_in_documents() -> Comparisons:

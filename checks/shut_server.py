@@ -44,6 +44,8 @@ IMPORT = posting("/cards/both", OFFICE, DAY)
 ENTER = posting("/drivers/17/entries", OFFICE, MORNING)
 SIGN = posting("/drivers/17/entries", OFFICE, DAY_OFF)
 WITHDRAW = asking("POST /drivers/17/withdraw/1", OFFICE)
+WITHDRAW_ALL = asking("POST /drivers/17/withdraw/1/3", OFFICE)
+RENAME = posting("/drivers/17/name", OFFICE, b"Anna Lind\n")
 REBASE = asking("POST /drivers/17/base/2024-03-11", OFFICE)
 
 # What an archive was given before, and three requests to it.
@@ -53,6 +55,7 @@ CASES = {
     "the largest download": (WITH_ANNA, [posting("/cards/both", OFFICE, LARGEST_DAY), HELD, REBASE]),
     "hours": (WITH_DAY, [ENTER, ENTRIES, WITHDRAW]),
     "a withdrawal": (WITH_DAY, [WITHDRAW, HELD, SIGN]),
+    "a withdrawal of three": ([*WITH_DAY, (["enter", "17"], MORNING)], [WITHDRAW_ALL, HELD, RENAME]),
     "another base": (WITH_DAY, [REBASE, asking("GET /drivers/17/breaches", OFFICE), IMPORT]),
     "changes one after the other": (WITH_DAY, [ENTER, SIGN, WITHDRAW]),
     "evidence, and all drivers": (WITH_DAY, [SIGN, WHY, OVERVIEW]),

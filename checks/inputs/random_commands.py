@@ -18,6 +18,7 @@ COMMANDS = 40
 NUMBERS = [17, 18, 999_999]
 KEYS = ["anna-key-1", "bert-key-2", "Key3" * 16]
 NAMES = [b"Anna Berg", "Zo\u00eb".encode(), b"B" * 64]
+OTHER_NAMES = [b"Anna Lind", b" ", "\u00f6".encode() * 32, b"a'b;c"]
 BASES = [19_786, 19_793, 10_959, 47_478]
 BAD_NUMBERS = [0, 1_000_000]
 OTHER_KEYS = ["anna-key-2", "k" * 8]
@@ -172,6 +173,11 @@ class Commands:
         key, end = self.one_of([*KEYS, *OTHER_KEYS], BAD_KEYS), self.one_of(["", "\n", "\r\n"], ["\r", "\n\n", " "])
         return ["key", str(self.one_of(NUMBERS, [1, 16]))], f"{key}{end}".encode()
 
+    def rename(self) -> Command:
+        """Another name, which another driver may have, or a text that is none."""
+        name, end = self.one_of([*NAMES, *OTHER_NAMES], BAD_NAMES), self.one_of([b"", b"\n", b"\r\n"], [b"\r", b"\n\n", b","])
+        return ["name", str(self.one_of(NUMBERS, [1, 16]))], name + end
+
     def download(self) -> Command:
         """A file that is there or not."""
         return ["file", str(self.one_of(NUMBERS, [16])), str(1 + self.chance.randrange(4))], b""
@@ -222,12 +228,16 @@ class Commands:
         return ["enter", str(number)], self.batch(spans)
 
     def withdraw(self) -> Command:
-        """A withdrawal of an entry that is kept or withdrawn, or of one that there isn't."""
+        """A withdrawal of an entry that is kept or withdrawn, or of one that there isn't, or of a range of entries."""
         drivers = [driver for driver in self.drivers.values() if driver.entries]
         if not drivers or self.chance.random() < 0.1:
-            return ["withdraw", str(self.one_of(NUMBERS, [1, 16])), str(1 + self.chance.randrange(4))], b""
-        driver = self.chance.choice(drivers)
-        return ["withdraw", str(driver.number), str(self.chance.randrange(1, len(driver.entries) + 1))], b""
+            number, entry = self.one_of(NUMBERS, [1, 16]), 1 + self.chance.randrange(4)
+        else:
+            driver = self.chance.choice(drivers)
+            number, entry = driver.number, self.chance.randrange(1, len(driver.entries) + 1)
+        last = entry + self.one_of([0, 0, 1, 1, 2, 5], [-1, 1_000])
+        ends = [str(last)] if self.chance.random() < 0.4 else []
+        return ["withdraw", str(number), str(entry), *ends], b""
 
     def entries(self) -> Command:
         """A driver's entries."""
@@ -241,7 +251,7 @@ class Commands:
     def all(self) -> list[Command]:
         """The commands: some drivers first, and then anything."""
         kinds: list[Callable[[], Any]] = [self.import_new] * 7 + [self.enter] * 7 + [self.withdraw] * 4
-        kinds += [self.import_again, self.timeline, self.entries, self.download, self.rebase, self.rekey, self.register]
+        kinds += [self.import_again, self.timeline, self.entries, self.download, self.rebase, self.rekey, self.rename, self.register]
         commands = self.registrations()
         for command in commands:
             self.office.answer(*command)

@@ -44,12 +44,19 @@ OTHER_PATHS = [
     "/me/",
     "/me/breaches/17",
     "/me/withdraw/1",
+    "/me/withdraw/1/2",
+    "/drivers/17/withdraw/1/2/3",
+    "/drivers/17/withdraw/1/",
+    "/me/name",
+    "/drivers/17/name/Anna",
     "/me/cards/b\u00f6th",
     "/drivers/17/files/",
     "/drivers/17/why",
     "/drivers/17/ahead/2024-03-05",
     "/me/ahead/2024-03-05/12:00/",
     "/drivers/17/form/2024-03",
+    "/drivers/17/form/2024-03-11/12:00",
+    "/me/form/",
     "/overview",
     "/overview/2024-03/17",
     "/incidents/",
@@ -114,6 +121,11 @@ class Parts:
         return self.head() + self.body + self.after
 
 
+def with_parts(paths: Sequence[str], count: int) -> str:
+    """The path that has a count of parts in braces, or none."""
+    return next((path for path in paths if path.count("{") == count), "")
+
+
 def padded_file(file: bytes, length: int) -> bytes:
     """A card file of a length, with blocks after it that are not read."""
     while length - len(file) > 5:
@@ -137,9 +149,12 @@ class Requests(office_lines.Lines):
         return random_commands.Commands.import_new(self)
 
     def reading(self) -> Command:
-        """A reading that has a path: `check` and `migrate` are the command line's alone. Often enough the version, and a file that is there."""
+        """A reading that has a path: `check` and `migrate` are the command line's alone. Often enough the version, the line of a driver,
+        and a file that is there."""
         if self.chance.random() < 0.05:
             return ["version"], b""
+        if self.chance.random() < 0.05:
+            return ["drivers", str(self.number())], b""
         if self.chance.random() < 0.05:
             kept = [driver.number for driver in self.drivers.values() if driver.downloads]
             return ["file", str(self.chance.choice(kept or [17])), "1"], b""
@@ -168,13 +183,12 @@ class Requests(office_lines.Lines):
         command, *others = words
         is_input = command in WITH_INPUT
         is_own = command == "own" or command in OWN and self.chance.random() < 0.4
-        # The last path has the most arguments.
-        place = -1 if others else 0
-        path = OWN_PATHS[command][place] if is_own else PATHS[command][place]
-        has_driver = command == "own" or "{driver}" in PATHS[command][place]
-        driver, *ends = others if has_driver else ["", *others]
+        path = with_parts(PATHS[command], len(others))
+        driver, *ends = others if command == "own" or "{driver}" in path else ["", *others]
+        if is_own:
+            path = with_parts(OWN_PATHS[command], len(ends))
         for end in ends:
-            path = path.replace("{word}" if "{word}" in path else "{time}", end, 1)
+            path = path.replace("{word}" if "{word}" in path else "{next}", end, 1)
         fields = [("x-key", (self.key_of(others[0]) if others else self.any_key()) if is_own else self.office_key)]
         if is_input or command in POSTED and self.chance.random() < 0.5:
             fields.append(("content-length", str(len(given))))

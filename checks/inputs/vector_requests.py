@@ -3,7 +3,9 @@ docs/FORMATS.md, 'Requests and replies', says what a request is, and in which or
 import itertools
 from collections.abc import Iterable, Iterator
 
-from lib.office_rows import ANNA, BERT, CARD, DAY, DAY_OFF, FREE_DAYS, HOLDER, HOURS_HEAD, LONG_NOTE, NO_AUTHOR, SATURDAY, SIGNED_HEAD
+from lib.office_rows import (
+    ANNA, BERT, CARD, DAY, DAY_OFF, FREE_DAYS, HOLDER, HOURS_HEAD, LONG_NOTE, NO_AUTHOR, SATURDAY, SIGNED_HEAD, THREE_DAYS,
+)
 from lib.server import DRIVER, OFFICE, OWN, asking, posting
 from lib.vector_sets import Made, pieces_of
 
@@ -153,7 +155,7 @@ def paths() -> Iterator[Made]:
         ("HEAD", "/me/why/2024-03", DRIVER), ("POST", "/me/chart/2024-03", DRIVER),
     ):
         yield made("path", 405, f"the path '{path}' hasn't the method {method}", [ADD_ANNA, asking(f"{method} {path}", key)])
-    for path in ("/drivers/17/files/", "/drivers/17/form/2024-03", "/drivers/17/why", "/drivers/17/chart/", "/overview", "/incidents/",
+    for path in ("/drivers/17/files/", "/drivers/17/form/2024/03", "/drivers/17/why", "/drivers/17/chart/", "/overview", "/incidents/",
                  "/overview/2024-03/17"):
         yield made("path", 404, f"the path '{path}' isn't one", [ADD_ANNA, asking(f"GET {path}", OFFICE)])
     for path in ("/me/overview/2024-03", "/me/incidents/2024-03", "/me/stretches/2024-03", "/me/why"):
@@ -370,7 +372,106 @@ def of_all_drivers() -> Iterator[Made]:
         yield made("argument", 200, what, [ADD_ANNA, *at_end])
 
 
+def ranges() -> Iterator[Made]:
+    """Withdrawals of a range of entries, of which a driver has three: the office alone asks for them."""
+    entered = [ADD_ANNA, posting("/drivers/17/entries", OFFICE, THREE_DAYS)]
+
+    def withdrawn(end: str, key: str = OFFICE, *fields: str, body: bytes = b"") -> bytes:
+        return asking(f"POST /drivers/{end}", key, *fields, body=body)
+
+    all_three, second = withdrawn("17/withdraw/1/3"), withdrawn("17/withdraw/2")
+    entries = asking("GET /drivers/17/entries", OFFICE)
+    yield made("range", 200, "three entries are withdrawn", [*entered, all_three])
+    yield made("range", 200, "the entries are listed after all three were withdrawn", [*entered, all_three, entries])
+    yield made("range", 200, "a range of one entry is withdrawn", [*entered, withdrawn("17/withdraw/2/2")])
+    yield made("range", 200, "two ranges that touch are withdrawn", [*entered, withdrawn("17/withdraw/1/2"), withdrawn("17/withdraw/3/3")])
+    yield made("range", 200, "hours that contradict entries are withdrawn with them, so that a card file is taken",
+               [*entered, withdrawn("17/withdraw/1/1"), posting("/me/cards/both", DRIVER, SATURDAY), entries])
+    yield made("range", 409, "three entries are withdrawn, of which one is withdrawn already (S8)", [*entered, second, all_three])
+    yield made("range", 200, "no entry was withdrawn by a range that was refused", [*entered, second, all_three, entries])
+    yield made("range", 404, "a range goes past the last entry (S7)", [*entered, withdrawn("17/withdraw/2/4")])
+    yield made("range", 200, "no entry was withdrawn by a range that went past the last", [*entered, withdrawn("17/withdraw/2/4"), entries])
+    yield made("range", 404, "a range begins after the last entry (S7)", [*entered, withdrawn("17/withdraw/4/1000000")])
+    yield made("range", 409, "a range has an entry withdrawn already, and goes past the last after it: the least number says why (S8)",
+               [*entered, second, withdrawn("17/withdraw/1/4")])
+    for end, what in (("17/withdraw/2/1", "a range ends before it begins"), ("17/withdraw/10/9", "a range from 10 to 9, as numbers"),
+                      ("18/withdraw/2/1", "a range ends before it begins, before an unknown driver")):
+        yield made("range", 400, f"{what} (N2)", [*entered, withdrawn(end)])
+    for end, what in (("017/withdraw/2/1", "a driver's number has a zero in front"), ("17/withdraw/0/1", "a range begins at 0"),
+                      ("17/withdraw/2/0", "a range ends at 0"), ("17/withdraw/2/01", "the last number of a range has a zero in front"),
+                      ("17/withdraw/1/1000001", "a range ends at 1000001"), ("18/withdraw/2/x", "a range ends at no number")):
+        yield made("range", 400, f"{what} (N1)", [*entered, withdrawn(end)])
+    yield made("range", 404, "a range of an unknown driver (S4)", [*entered, withdrawn("18/withdraw/1/2")])
+    yield made("range", 403, "a driver may not withdraw a range", [*entered, withdrawn("17/withdraw/1/2", DRIVER)])
+    yield made("range", 404, "a driver has no path for a range", [*entered, asking("POST /me/withdraw/1/2", DRIVER)])
+    yield made("range", 405, "a range is asked for by GET", [*entered, asking("GET /drivers/17/withdraw/1/2", OFFICE)])
+    for end in ("1/", "/1", "1/2/", "1/2/3"):
+        yield made("range", 404, f"the path '/drivers/17/withdraw/{end}' isn't one", [*entered, withdrawn(f"17/withdraw/{end}")])
+    yield made("range", 400, "the length 1 of a range", [*entered, withdrawn("17/withdraw/1/2", OFFICE, f"{LENGTH}1", body=b"\n")])
+
+
+def names() -> Iterator[Made]:
+    """Another name of a driver: the office alone gives it."""
+    def named(name: bytes, number: str = "17", key: str = OFFICE) -> bytes:
+        return posting(f"/drivers/{number}/name", key, name)
+
+    listed = asking("GET /drivers", OFFICE)
+    for name, what in (
+        (b"Anna Lind", "a name"), (b"Anna Lind\n", "a name with LF after it"), (b"Anna Lind\r\n", "a name with CR LF after it"),
+        (b"n", "a name of one byte"), (64 * b"n" + b"\r\n", "a name of 64 bytes, and CR LF"),
+        (16 * "\U0001f69a".encode(), "a name of 16 letters of four bytes"), (b" ", "a name of one blank"),
+    ):
+        yield made("name", 200, f"{what} is given, and listed", [ADD_ANNA, named(name), listed])
+    yield made("name", 200, "a driver gets another name", [ADD_ANNA, named(b"Anna Lind")])
+    yield made("name", 200, "a driver gets the name of another one", [ADD_ANNA, ADD_BERT, named(b"Anna Berg", "18"), listed])
+    yield made("name", 200, "a sheet has the new name", [*WITH_DAY, named(b"Anna Lind"), asking("GET /me/sheet/2024-03", DRIVER)])
+    for name, what in (
+        (b"", "no byte"), (b"\n", "LF alone"), (b"Lind, Anna", "a comma"), (b'Anna "Lind"', "double quotes"), (b"Anna\tLind", "a tab"),
+        (b"Anna\x7f", "byte 127"), (b"Anna\r", "CR alone at the end"), (b"Anna\n\n", "two ends of a line"), (b"Anna\nLind", "two lines"),
+        (65 * b"n", "65 bytes"), (b"Anna\xc3", "a letter that is cut"),
+    ):
+        yield made("name", 422, f"a name with {what} (E9)" if name else "no name (E9)", [ADD_ANNA, named(name)])
+    yield made("name", 422, "a name with a comma (E9), before the driver is looked for", [ADD_ANNA, named(b"Lind, Anna", "18")])
+    yield made("name", 400, "a name for a number with a zero in front (N1), before what is wrong with the name",
+               [ADD_ANNA, named(b"", "017")])
+    yield made("name", 404, "a name for an unknown driver (S4)", [ADD_ANNA, named(b"Anna Lind", "18")])
+    yield made("name", 403, "a driver may not give a name", [ADD_ANNA, named(b"Anna Lind", "17", DRIVER)])
+    yield made("name", 404, "a driver has no path '/me/name'", [ADD_ANNA, posting("/me/name", DRIVER, b"Anna Lind")])
+    yield made("name", 405, "a name is asked for by GET", [ADD_ANNA, asking("GET /drivers/17/name", OFFICE)])
+    yield made("name", 411, "a name without a length", [ADD_ANNA, asking("POST /drivers/17/name", OFFICE, body=b"Anna Lind")])
+    yield made("name", 413, "a name of 262,145 bytes", [ADD_ANNA, asking("POST /drivers/17/name", OFFICE, f"{LENGTH}262145")])
+
+
+def forms() -> Iterator[Made]:
+    """The form for gaps before a day."""
+    whole = [*WITH_DAY, ADD_HOURS]
+    for who, key, whose in (("/drivers/17", OFFICE, "the office"), ("/me", DRIVER, "the driver")):
+        for date, what in (
+            ("2024-03-04", "the base"), ("2024-03-05", "the end of the first gap"), ("2024-03-06", "a day in the second gap"),
+            ("2024-03-12", "a day after all that is held"), ("2000-01-03", "the first day that is read"),
+        ):
+            yield made("form", 200, f"the form as far as {what} is asked for by {whose}", [*whole, asking(f"GET {who}/form/{date}", key)])
+    yield made("form", 200, "the form to a day of a driver who has nothing", [ADD_ANNA, asking("GET /me/form/2024-03-06", DRIVER)])
+    years = [*WITH_DAY, asking("POST /drivers/17/base/2020-01-06", OFFICE)]
+    for date, what in (("2021-01-06", "366 days"), ("2021-01-07", "367 days, in two rows")):
+        yield made("form", 200, f"the form of {what}", [*years, asking(f"GET /drivers/17/form/{date}", OFFICE)])
+    for number, date, status, what in (
+        ("17", "2024-03", 400, "a month for a day (Z1)"), ("17", "2024-3-6", 400, "a day of another shape (Z1)"),
+        ("17", "2024-02-30", 400, "30 February (Z2)"), ("17", "2000-01-02", 400, "a day before those that are read (Z3)"),
+        ("17", "2100-01-01", 400, "a day of 2100 (Z3)"),
+        ("017", "2024-02-30", 400, "a number with a zero in front (N1), before a wrong day"),
+        ("18", "2024-02-30", 400, "30 February (Z2), before an unknown driver"), ("18", "2024-03-06", 404, "an unknown driver (S4)"),
+    ):
+        yield made("form", status, f"{what}, of a form", [ADD_ANNA, asking(f"GET /drivers/{number}/form/{date}", OFFICE)])
+    path = "form/2024-03-06"
+    yield made("form", 403, f"a driver may not GET '/drivers/17/{path}'", [ADD_ANNA, asking(f"GET /drivers/17/{path}", DRIVER)])
+    yield made("form", 403, f"the office may not GET '/me/{path}'", [ADD_ANNA, asking(f"GET /me/{path}", OFFICE)])
+    yield made("form", 405, f"the path '/me/{path}' hasn't the method POST", [ADD_ANNA, asking(f"POST /me/{path}", DRIVER)])
+    for end in ("form/", f"{path}/", f"{path}/12:00"):
+        yield made("form", 404, f"the path '/me/{end}' isn't one", [ADD_ANNA, asking(f"GET /me/{end}", DRIVER)])
+
+
 def requests() -> list[Made]:
     """All cases of requests."""
-    makers = (heads, limits, keys, paths, bodies, arguments, refusals, done, single_bytes, forecasts, of_all_drivers)
+    makers = (heads, limits, keys, paths, bodies, arguments, refusals, done, single_bytes, forecasts, of_all_drivers, ranges, names, forms)
     return [one for maker in makers for one in maker()]

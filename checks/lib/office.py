@@ -38,8 +38,9 @@ READINGS = [
     "overview 2024-03",
     "incidents 2024-03",
     "form 17",
+    "form 17 2024-03-05",
 ]
-COMMANDS = ["register", "import both", "enter 17", "withdraw 17 1", "base 17 2024-03-11", *READINGS]
+COMMANDS = ["register", "import both", "enter 17", "withdraw 17 1", "withdraw 17 1 2", "base 17 2024-03-11", "key 17", "name 17", *READINGS]
 
 
 class HasWords(Protocol):
@@ -94,6 +95,8 @@ CHANGES: list[Command] = [
     (["withdraw", "17", "1"], b""),
     (["base", "17", "2024-03-11"], b""),
     (["key", "17"], b"anna-key-2\n"),
+    (["name", "17"], b"Anna Lind\n"),
+    (["withdraw", "17", "2", "2"], b""),
 ]
 
 

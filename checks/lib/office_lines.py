@@ -10,7 +10,7 @@ LINES = 30
 FIRST_DAY = 10_957  # 2000-01-01, the first day of a month that is read
 LAST_MINUTE = 68_374_079  # 2099-12-31 23:59
 READINGS = ["spans", "gaps", "sheet", "chart", "why", "breaches", "owed", "owed", "entries", "files", "file", "drivers", "check", "migrate"]
-READINGS += ["stretches", "stretches", "debts", "forecast", "standing", "overview", "incidents", "form", "ahead"]
+READINGS += ["stretches", "stretches", "debts", "forecast", "standing", "overview", "incidents", "form", "form", "ahead"]
 BAD_DRIVERS = ["017", "0", "1000000", "", "+17", "1e3", "\u0661\u0667"]
 BAD_NUMBERS = ["0", "01", "1000001", "x", "99999999999999999999"]
 BAD_MONTHS = ["2024-13", "2024-00", "2024-3", "1999-12", "2100-01", "0000-01", "2024-03-04", "2024/03"]
@@ -22,7 +22,7 @@ BAD_PARTS = ["whole", "BOTH", "", "0"]
 BAD: dict[str, list[list[str]]] = {
     "register": [],
     "import": [BAD_PARTS],
-    "withdraw": [BAD_DRIVERS, BAD_NUMBERS],
+    "withdraw": [BAD_DRIVERS, BAD_NUMBERS, BAD_NUMBERS],
     "base": [BAD_DRIVERS, BAD_DATES],
     "spans": [BAD_DRIVERS, BAD_MONTHS],
     "gaps": [BAD_DRIVERS, BAD_MONTHS],
@@ -31,6 +31,7 @@ BAD: dict[str, list[list[str]]] = {
     "why": [BAD_DRIVERS, BAD_MONTHS],
     "ahead": [BAD_DRIVERS, BAD_DATES, BAD_TIMES],
     "file": [BAD_DRIVERS, BAD_NUMBERS],
+    "form": [BAD_DRIVERS, BAD_DATES],
     "drivers": [BAD_DRIVERS],
     "check": [],
     "migrate": [],
@@ -92,6 +93,14 @@ class Lines(random_commands.Commands):
         date, time = slow_reader.minute_text(min(minute, LAST_MINUTE)).split(" ")
         return [self.one_of([date], BAD_DATES), self.one_of([time], BAD_TIMES)]
 
+    def day(self, driver: Driver | None) -> list[str]:
+        """A date before, within or after what a driver holds, or an argument that is none, or no argument."""
+        held = [minute // 1440 for minute in driver.held()] if driver else []
+        base, end = driver.base if driver else self.base // 1440, max(held, default=self.base // 1440)
+        day = self.chance.choice([base, base - 7, base + 1, end, end + 1, end + 400, *[self.chance.choice(held or [end])] * 4])
+        date = date_text(max(slow_reader.READ_DAYS.start, min(day, slow_reader.READ_DAYS.stop - 1)))
+        return [self.one_of([date], BAD_DATES)] if self.chance.random() < 0.5 else []
+
     def minute_of_all(self) -> list[str]:
         """A date and a time for all drivers: near the first end of what they hold, or so late that none has a forecast, or arguments
         that are none. A slow forecast from years after a horizon on takes long."""
@@ -121,6 +130,8 @@ class Lines(random_commands.Commands):
             return [word, str(number), self.month(driver)], b""
         if word == "ahead":
             return [word, str(number), *self.minute(driver)], b""
+        if word == "form":
+            return [word, str(number), *self.day(driver)], b""
         if word == "file":
             count = len(driver.downloads) if driver else 0
             return [word, str(number), str(self.one_of(range(1, count + 1) or [1], [count + 1]))], b""
@@ -141,7 +152,7 @@ class Lines(random_commands.Commands):
     def command(self) -> Command:
         """A command."""
         kinds = [self.import_new] * 4 + [self.enter] * 4 + [self.withdraw] * 3 + [self.weeks] * 2
-        kinds += [self.import_again, self.rebase, self.rekey, self.register]
+        kinds += [self.import_again, self.rebase, self.rekey, self.rename, self.register]
         return self.chance.choice(kinds)()
 
     def line(self) -> Command:

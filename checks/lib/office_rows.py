@@ -43,6 +43,14 @@ LONG_NOTE = DAY_OFF.replace(b"day off", 201 * b"n")
 NO_KEYS = [b"", b"\n", b"\r\n", 7 * b"k", 65 * b"k", b"anna_key_4", b"anna-key-4 ", b" anna-key-4", b"anna-key-4\r", b"anna-key-4\n\n"]
 NO_KEYS += [b"anna-key-4\n\r", b"\xef\xbb\xbfanna-key-4", b"anna-key-4\0", "anna-k\u00ebys".encode(), b"anna-key-4\nbert-key-4\n"]
 
+# What is no line with a name, and what is one: one letter, as many bytes as there may be, and a byte order mark, which is a part of it.
+NO_NAMES = [b"", b"\n", b"\r\n", b"Lind, Anna", b'Anna "Lind"', b"Anna\tLind", b"Anna\0", b"Anna\x1f", b"Anna\x7f", b"Anna\r", b"Anna\n\n"]
+NO_NAMES += [b"Anna\n\r", b"Anna\nLind\n", 65 * b"n", 63 * b"n" + "\u00f6".encode(), b"Zo\xc3\n", b"\xff", b"\xed\xa0\x80", b"\xc0\xaf"]
+LINES_WITH_NAMES = {
+    "n": "n\n", " ": " \r\n", 64 * "n": f"{64 * 'n'}\r\n", 32 * "\u00f6": 32 * "\u00f6", 16 * "\U0001f69a": f"{16 * chr(0x1f69a)}\n",
+    "Anna 'A'; <&>": "Anna 'A'; <&>\n", "\ufeffAnna\u0085": "\ufeffAnna\u0085\n",
+}
+
 HEAD = "DATE       DAY   REST  AVAIL   WORK  DRIVE   CREW   NONE\n"
 BREACH = "B1 Art 7 at 2024-03-04 13:00 since 2024-03-04 08:30 amount 240\n"
 EXAMINED = "EXAMINED TO 2024-03-04 17:00 unknown\n"
@@ -102,6 +110,19 @@ def rested(busy: Iterable[Span], weeks: int = 0) -> bytes:
 def bert(key: str, holder: str = HOLDER, base: str = "2024-03-05") -> bytes:
     """The text of CSV with another driver."""
     return f"driver,holder,key,base,name\n18,{holder},{key},{base},Bert\n".encode()
+
+
+def rests(*standings: str, first: int = 1) -> str:
+    """The lines of entries of rest on a day each, from 9 March on, by whether each is kept or withdrawn, and the number of the first."""
+    return "".join(
+        f'{first + place} 2024-03-{9 + place:02} 00:00 2024-03-{10 + place:02} 00:00 rest {standing} "office" ""\n'
+        for place, standing in enumerate(standings)
+    )
+
+
+def anna(name: str) -> str:
+    """The line of Anna, who has nothing, by another name."""
+    return f"17 {HOLDER} 2024-03-04 0 0 {name}\n"
 
 
 def days(month: str, weekdays: Sequence[str], first: int = 1) -> str:
@@ -192,6 +213,21 @@ THREE_LONG_DAYS = [
     *rules.drive([4, 5], "06:00-10:30", "11:15-15:45", "16:30-16:31"), *rules.work([4, 5], "16:31-21:00"), *rules.work([6], "06:00-21:00"),
 ]
 NIGHT = HOURS_HEAD + b"2024-03-06 21:00,2024-03-07 06:00,rest\n"
+
+# Rest on three days, and the quarters of a week, which are as many entries.
+THREE_DAYS = hours(*[f"2024-03-{day:02} 00:00,2024-03-{day + 1:02} 00:00,rest" for day in (9, 10, 11)])
+QUARTERS = hours_csv([(rules.BASE + 15 * place, rules.BASE + 15 * place + 15, "rest") for place in range(672)])
+
+# The rows of a form: of the gap on a day, of the gap after it, and of that as far as 6 March.
+FIRST_GAP = b"2024-03-04 17:00,2024-03-05 00:00,,,\n"
+SECOND_GAP = b"2024-03-05 08:00,2024-03-09 00:00,,,\n"
+CUT_GAP = b"2024-03-05 08:00,2024-03-06 00:00,,,\n"
+
+# The rows of a form from 6 January 2020 on, each of 366 days, and of the days that are left.
+YEARS = [
+    b"2020-01-06 00:00,2021-01-06 00:00,,,\n", b"2021-01-06 00:00,2022-01-07 00:00,,,\n", b"2022-01-07 00:00,2023-01-08 00:00,,,\n",
+    b"2023-01-08 00:00,2024-01-09 00:00,,,\n", b"2024-01-09 00:00,2024-03-04 00:00,,,\n",
+]
 
 TO_LAST_MONTH = 3_954  # weeks from 4 March 2024 to 14 December 2099
 
@@ -323,6 +359,34 @@ ROWS = {
         done("key 17", "key 17\n", b"bert-key-1\n"),
         done("drivers", f"17 {HOLDER} 2024-03-04 0 0 Anna Berg\n18 {HOLDER[:-1]}4 2024-02-05 0 0 Bert\n"),
     ],
+    "names": [
+        done("name 17", "name 17\n", b"Anna Lind\r\n"),
+        done("drivers 17", anna("Anna Lind")),
+        done("name 17", "name 17\n", b"Anna Lind"),
+        *[
+            one
+            for name, text in LINES_WITH_NAMES.items()
+            for one in [done("name 17", "name 17\n", text.encode()), done("drivers", anna(name))]
+        ],
+        done("name 17", "name 17\n", b"Anna Lind\n"),
+        *[refused("name 17", "E9 bad value for name", text) for text in NO_NAMES],
+        refused("name 18", "E9 bad value for name", b"Lind, Anna"),
+        refused("name 17", "X1 too large", TOO_LARGE),
+        refused("name 18", "X1 too large", TOO_LARGE),
+        refused("name 17", "E9 bad value for name", 64 * b"n" + b"\n" * (LIMIT - 64)),
+        *[refused(f"name {number}", "N1 bad number", TOO_LARGE) for number in ["017", "0", "1000000", "+17", ""]],
+        refused("name 18", "S4 unknown driver", b"Anna Lind\n"),
+        done("drivers 17", anna("Anna Lind")),
+        done("register", "registered 18\n", BERT),
+        done("name 18", "name 18\n", b"Anna Lind\n"),
+        done("drivers", f"{anna('Anna Lind')}18 {HOLDER[:-1]}4 2024-02-05 0 0 Anna Lind\n"),
+        done("name 18", "name 18\n", b"Bert\n"),
+        ADDED,
+        done("sheet 17 2024-03", MARCH.replace("Anna Berg", "Anna Lind")),
+        done("standing 2024-03", STANDING_HEAD + STANDING_DAY.format(0, 1).replace("Anna Berg", "Anna Lind") + STANDING_BERT),
+        done("breaches 17", BREACH + EXAMINED),
+        done("file 17 1", DAY),
+    ],
     "a second driver": [
         done("import both", "added driver 17 number 1\n", CREW_DAY),
         done("breaches 17", CREWED),
@@ -351,6 +415,69 @@ ROWS = {
             FREE_LINE + '2 2024-03-05 08:00 2024-03-05 08:30 work kept "office" ""\n'
             '3 2024-03-05 08:30 2024-03-05 12:00 drive kept "office" ""\n',
         ),
+    ],
+    "ranges of entries": [
+        refused("withdraw 17 1 2", "S7 unknown entry"),
+        done("enter 17", "entered 1 to 3\n", THREE_DAYS),
+        *[refused(f"withdraw 17 {numbers}", "S7 unknown entry") for numbers in ["1 4", "3 4", "4 4", "4 5", "1 1000000", "4 1000000"]],
+        done("entries 17", rests("kept", "kept", "kept")),
+        done("withdraw 17 2 2", "withdrawn 2 to 2\n"),
+        *[refused(f"withdraw 17 {numbers}", "S8 already withdrawn") for numbers in ["1 3", "1 2", "2 3", "2 2", "1 4", "2 1000000", "2"]],
+        *[refused(f"withdraw 17 {numbers}", "S7 unknown entry") for numbers in ["3 4", "3 1000000", "4 1000000"]],
+        done("entries 17", rests("kept", "withdrawn", "kept")),
+        done(
+            "spans 17 2024-03",
+            "start,past,activity,manning\n2024-03-09 00:00,2024-03-10 00:00,rest,single\n2024-03-11 00:00,2024-03-12 00:00,rest,single\n",
+        ),
+        done("withdraw 17 1 1", "withdrawn 1 to 1\n"),
+        done("withdraw 17 3", "withdrawn 3\n"),
+        refused("withdraw 17 1 3", "S8 already withdrawn"),
+        done("enter 17", "entered 4 to 6\n", THREE_DAYS),
+        done("withdraw 17 4 6", "withdrawn 4 to 6\n"),
+        done("entries 17", rests("withdrawn", "withdrawn", "withdrawn") + rests("withdrawn", "withdrawn", "withdrawn", first=4)),
+        done("spans 17 2024-03", "start,past,activity,manning\n"),
+        done("import both", "added driver 17 number 1\n", SATURDAY),
+    ],
+    "ranges that are none": [
+        done("enter 17", "entered 1 to 3\n", THREE_DAYS),
+        *[refused(f"withdraw {numbers}", "N2 wrong order") for numbers in ["17 2 1", "17 10 9", "17 1000000 1", "18 2 1", "999999 3 2"]],
+        *[
+            refused(f"withdraw {numbers}", "N1 bad number")
+            for numbers in [
+                "17 0 1", "17 01 1", "17 1000001 1", "17 2 0", "17 2 01", "17 2 +1", "17 1 1000001", "17 1 x", "17 1 2.", "17  2",
+                "017 2 1", "0 1 2", " 1 2", "18 2 0", "18 0 1",
+            ]
+        ],
+        *[refused(f"withdraw {numbers}", "S4 unknown driver") for numbers in ["18 1 1", "18 1 2", "18 9 10", "18 1 "]],
+        refused("withdraw 17 9 10", "S7 unknown entry"),
+        refused("withdraw 17 4 ", "S7 unknown entry"),
+        done("entries 17", rests("kept", "kept", "kept")),
+        done("withdraw 17 1 ", "withdrawn 1\n"),
+        refused("withdraw 17 1 ", "S8 already withdrawn"),
+        done("withdraw 17 2 3", "withdrawn 2 to 3\n"),
+    ],
+    "a range beside a file": [
+        ADDED,
+        done("enter 17", "entered 1 to 2\n", DRIVEN),
+        done("enter 17", "entered 3 to 3\n", REST_OF_DAY),
+        done("enter 17", "entered 4 to 4\n", FREE_DAYS),
+        done("enter 17", "entered 5 to 5\n", FREE_DAYS),
+        done("withdraw 17 1 4", "withdrawn 1 to 4\n"),
+        done("spans 17 2024-03", f"{SPANS}2024-03-09 00:00,2024-03-11 00:00,rest,single\n"),
+        done("breaches 17", BREACH + EXAMINED),
+        refused("withdraw 17 4 5", "S8 already withdrawn"),
+        done("withdraw 17 5 5", "withdrawn 5 to 5\n"),
+        done("spans 17 2024-03", SPANS),
+        done("import both", "added driver 17 number 2\n", SATURDAY),
+    ],
+    "a week of quarters": [
+        done("enter 17", "entered 1 to 672\n", QUARTERS),
+        refused("withdraw 17 1 673", "S7 unknown entry"),
+        done("spans 17 2024-03", "start,past,activity,manning\n2024-03-04 00:00,2024-03-11 00:00,rest,single\n"),
+        done("withdraw 17 1 672", "withdrawn 1 to 672\n"),
+        done("spans 17 2024-03", "start,past,activity,manning\n"),
+        refused("withdraw 17 1 672", "S8 already withdrawn"),
+        done("drivers", f"17 {HOLDER} 2024-03-04 0 672 Anna Berg\n"),
     ],
     "who entered hours, and why": [
         ADDED,
@@ -620,6 +747,54 @@ ROWS = {
         refused("overview 2024-3", "Z1 not of the shape"),
         refused("overview 2024-13", "Z2 no such date"),
         refused("incidents 1999-12", "Z3 out of range"),
+    ],
+    "a form to a day": [
+        *[done(f"form 17 {date}", SIGNED_HEAD) for date in ["2000-01-03", "2024-03-04", "2024-03-05", "2099-12-31"]],
+        ADDED,
+        done("enter 17", "entered 1 to 1\n", FREE_DAYS),
+        *[done(f"form 17{date}", SIGNED_HEAD + FIRST_GAP + SECOND_GAP) for date in ["", " "]],
+        *[done(f"form 17 {date}", SIGNED_HEAD) for date in ["2000-01-03", "2024-03-03", "2024-03-04"]],
+        done("form 17 2024-03-05", SIGNED_HEAD + FIRST_GAP),
+        done("form 17 2024-03-06", SIGNED_HEAD + FIRST_GAP + CUT_GAP),
+        *[
+            done(f"form 17 {date}", SIGNED_HEAD + FIRST_GAP + SECOND_GAP)
+            for date in ["2024-03-09", "2024-03-10", "2024-03-11", "2024-03-12", "2099-12-31"]
+        ],
+        done("enter 17", "entered 2 to 3\n", (SIGNED_HEAD + FIRST_GAP + CUT_GAP).replace(b",,,", b",rest,Eva Lund,")),
+        done("form 17 2024-03-06", SIGNED_HEAD),
+        done("form 17 2024-03-07", SIGNED_HEAD + b"2024-03-06 00:00,2024-03-07 00:00,,,\n"),
+        done("form 17", SIGNED_HEAD + b"2024-03-06 00:00,2024-03-09 00:00,,,\n"),
+        done("withdraw 17 2 3", "withdrawn 2 to 3\n"),
+        done("form 17 2024-03-06", SIGNED_HEAD + FIRST_GAP + CUT_GAP),
+        *[refused(f"form 17 {date}", "Z1 not of the shape") for date in ["2024-03", "2024-3-4", "2024-03-04T12:00", "17", "x"]],
+        *[refused(f"form 17 {date}", "Z2 no such date") for date in ["2024-02-30", "2023-02-29", "2100-02-30", "2024-13-01"]],
+        *[refused(f"form 17 {date}", "Z3 out of range") for date in ["2000-01-02", "1999-12-31", "2100-01-01"]],
+        refused("form 017 2024-02-30", "N1 bad number"),
+        refused("form  2024-02-30", "N1 bad number"),
+        refused("form 18 2024-02-30", "Z2 no such date"),
+        *[refused(f"form 18{date}", "S4 unknown driver") for date in [" 2024-03-05", " "]],
+    ],
+    "a form to a day by the base": [
+        ADDED,
+        done("enter 17", "entered 1 to 1\n", FREE_DAYS),
+        done("base 17 2024-03-11", "base 2024-03-11\n"),
+        *[done(f"form 17 {date}", SIGNED_HEAD) for date in ["2024-03-06", "2024-03-11", "2024-03-12", "2024-03-20"]],
+        done("base 17 2020-01-06", "base 2020-01-06\n"),
+        *[done(f"form 17 {date}", SIGNED_HEAD) for date in ["2020-01-05", "2020-01-06"]],
+        done("form 17 2020-01-07", SIGNED_HEAD + b"2020-01-06 00:00,2020-01-07 00:00,,,\n"),
+        done("form 17 2021-01-05", SIGNED_HEAD + b"2020-01-06 00:00,2021-01-05 00:00,,,\n"),
+        done("form 17 2021-01-06", SIGNED_HEAD + YEARS[0]),
+        done("form 17 2021-01-07", SIGNED_HEAD + YEARS[0] + b"2021-01-06 00:00,2021-01-07 00:00,,,\n"),
+        done("form 17 2024-03-04", SIGNED_HEAD + b"".join(YEARS)),
+        done("form 17 2024-03-06", SIGNED_HEAD + b"".join(YEARS) + FIRST_GAP + CUT_GAP),
+        done("form 17", SIGNED_HEAD + b"".join(YEARS) + FIRST_GAP + SECOND_GAP),
+    ],
+    "a form to the last day": [
+        done("base 17 2099-12-28", "base 2099-12-28\n"),
+        done("enter 17", "entered 1 to 1\n", hours("2099-12-31 23:58,2099-12-31 23:59,rest")),
+        done("form 17", SIGNED_HEAD + b"2099-12-28 00:00,2099-12-31 23:58,,,\n"),
+        done("form 17 2099-12-31", SIGNED_HEAD + b"2099-12-28 00:00,2099-12-31 00:00,,,\n"),
+        done("form 17 2099-12-30", SIGNED_HEAD + b"2099-12-28 00:00,2099-12-30 00:00,,,\n"),
     ],
 }
 

@@ -89,14 +89,15 @@ class Driver:
         self.entries.extend(batch)
         return first
 
-    def withdraw(self, number: int) -> None:
-        """Withdraws an entry: S7, S8."""
-        if not 1 <= number <= len(self.entries):
-            raise Refusal("S7")
-        entry = self.entries[number - 1]
-        if entry.is_withdrawn:
-            raise Refusal("S8")
-        entry.is_withdrawn = True
+    def withdraw(self, first: int, last: int) -> None:
+        """Withdraws all entries from one number to another, or none: S7, S8 for the least number of which that can't be done."""
+        for number in range(first, last + 1):
+            if not 1 <= number <= len(self.entries):
+                raise Refusal("S7")
+            if self.entries[number - 1].is_withdrawn:
+                raise Refusal("S8")
+        for entry in self.entries[first - 1 : last]:
+            entry.is_withdrawn = True
 
 
 def mark_number(mark: slow_reader.Mark) -> int:
@@ -163,9 +164,9 @@ class Archive:
         """The entry of lines of hours, each a start, a past, the number of an activity, an author and a note: S4, S6, S14."""
         return self.driver(number).enter([Entry(*line) for line in lines])
 
-    def withdraw(self, number: int, entry: int) -> None:
-        """Withdraws an entry: S4, S7, S8."""
-        self.driver(number).withdraw(entry)
+    def withdraw(self, number: int, first: int, last: int) -> None:
+        """Withdraws all entries from one number to another, or none: S4, S7, S8."""
+        self.driver(number).withdraw(first, last)
 
     def rebase(self, number: int, base: int) -> None:
         """Sets another base: S4, S9."""
@@ -178,6 +179,10 @@ class Archive:
         if any(other.key == key and other.number != number for other in self.drivers.values()):
             raise Refusal("S2")
         self.driver(number).key = key
+
+    def rename(self, number: int, name: bytes) -> None:
+        """Sets another name, which other drivers may have: S4."""
+        self.driver(number).name = name
 
     def download(self, number: int, download: int) -> bytes:
         """The bytes of a file: S4, S10."""

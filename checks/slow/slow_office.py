@@ -538,9 +538,10 @@ def chart_text(driver: slow_archive.Driver, month: Month) -> str:
     )
 
 
-def form_text(held: Marks, base: int) -> str:
-    """What isn't held from a minute to the end of what is held, in rows of 366 days at the most."""
-    rows = [(start, min(start + LONGEST, past)) for first, past in lacking_in(held, base) for start in range(first, past, LONGEST)]
+def form_text(held: Marks, base: int, limit: int | None) -> str:
+    """What isn't held from a minute to the end of what is held, or to a limit if that is earlier, in rows of 366 days at the most."""
+    gaps = [(first, past if limit is None else min(past, limit)) for first, past in lacking_in(held, base)]
+    rows = [(start, min(start + LONGEST, past)) for first, past in gaps for start in range(first, past, LONGEST)]
     lines = [f"{slow_reader.minute_text(start)},{slow_reader.minute_text(past)},,,\n" for start, past in rows]
     return "".join(["start,past,activity,author,note\n", *lines])
 
@@ -569,12 +570,16 @@ def line_of(refusal: Refusal) -> str:
     return f"S6 contradiction at {slow_reader.minute_text(int(rest))}" if code == "S6" else f"{code} {FAULTS[code]}"
 
 
-def key_of(given: bytes) -> str:
-    """The key that is the only line of an input: E9."""
-    line = re.fullmatch(rb"([A-Za-z0-9-]{8,64})(\r\n|\n|)", given)
-    if not line:
-        raise slow_reader.Fault("E9 bad value for key")
-    return line[1].decode()
+def line_in(given: bytes) -> bytes:
+    """An input without the LF or CR LF at its end."""
+    return re.sub(rb"\r?\n\Z", b"", given)
+
+
+def column_in(given: bytes, column: str) -> bytes:
+    """The value of a driver's column that is the only line of an input: E9."""
+    if not slow_csv.COLUMNS[column](line_in(given)):
+        raise slow_reader.Fault(f"E9 bad value for {column}")
+    return line_in(given)
 
 
 def within(given: bytes) -> bytes:
@@ -600,6 +605,7 @@ class Office:
             "withdraw": lambda: self.withdraw(*others),
             "base": lambda: self.rebase(*others),
             "key": lambda: self.rekey(given, reserved, *others),
+            "name": lambda: self.rename(given, *others),
             "spans": lambda: self.spans(*others),
             "gaps": lambda: self.gaps(*others),
             "sheet": lambda: self.sheet(*others),
@@ -669,11 +675,17 @@ class Office:
         first = self.archive.enter(driver, hours)
         return f"entered {first} to {first + len(lines) - 1}\n" if lines else "entered none\n"
 
-    def withdraw(self, number: str, entry: str) -> str:
-        """Withdraws an entry: N1, S4, S7, S8."""
+    def withdraw(self, number: str, entry: str, last: str = "") -> str:
+        """Withdraws an entry, or all to the last of a range: N1, N2, S4, S7, S8."""
         driver, place = number_of(number, LAST_DRIVER), number_of(entry, LAST_NUMBER)
-        self.archive.withdraw(driver, place)
-        return f"withdrawn {place}\n"
+        if not last:
+            self.archive.withdraw(driver, place, place)
+            return f"withdrawn {place}\n"
+        end = number_of(last, LAST_NUMBER)
+        if end < place:
+            raise slow_reader.Fault("N2 wrong order")
+        self.archive.withdraw(driver, place, end)
+        return f"withdrawn {place} to {end}\n"
 
     def rebase(self, number: str, date: str) -> str:
         """Sets another base: N1, Z1, Z2, Z3, S4, S9."""
@@ -684,11 +696,18 @@ class Office:
     def rekey(self, given: bytes, reserved: str | None, number: str) -> str:
         """Sets another key: N1, X1, E9, S2, S4."""
         driver = number_of(number, LAST_DRIVER)
-        key = key_of(within(given))
+        key = column_in(within(given), "key").decode()
         if key == reserved:
             raise Refusal("S2")
         self.archive.rekey(driver, key)
         return f"key {driver}\n"
+
+    def rename(self, given: bytes, number: str) -> str:
+        """Sets another name: N1, X1, E9, S4."""
+        driver = number_of(number, LAST_DRIVER)
+        name = column_in(within(given), "name")
+        self.archive.rename(driver, name)
+        return f"name {driver}\n"
 
     def month(self, number: str, month: str) -> tuple[slow_archive.Driver, Month]:
         """A driver and a month: N1, Z1, Z2, Z3, S4."""
@@ -792,7 +811,8 @@ class Office:
         minutes = month_minutes(month_of(month))
         return INCIDENT_HEAD + "".join(incident_rows(driver, minutes) for _, driver in sorted(self.archive.drivers.items()))
 
-    def form(self, number: str) -> str:
-        """The form for what a driver doesn't hold."""
-        driver = self.driver(number)
-        return form_text(driver.held(), 1440 * driver.base)
+    def form(self, number: str, date: str = "") -> str:
+        """The form for what a driver doesn't hold, or doesn't hold before a day: N1, Z1, Z2, Z3, S4."""
+        driver, limit = number_of(number, LAST_DRIVER), 1440 * day_of(date) if date else None
+        found = self.archive.driver(driver)
+        return form_text(found.held(), 1440 * found.base, limit)

@@ -69,6 +69,7 @@ OFFICE_ROUTES = {
     "/cards/{part}": {"POST": "import"},
     "/drivers/{n}/entries": {"POST": "enter", "GET": "entries"},
     "/drivers/{n}/withdraw/{k}": {"POST": "withdraw"},
+    "/drivers/{n}/withdraw/{first}/{last}": {"POST": "withdraw"},
     "/drivers/{n}/base/{date}": {"POST": "base"},
     "/drivers/{n}/spans/{month}": {"GET": "spans"},
     "/drivers/{n}/gaps/{month}": {"GET": "gaps"},
@@ -80,6 +81,7 @@ OFFICE_ROUTES = {
     "/drivers/{n}/debts": {"GET": "debts"},
     "/drivers/{n}/files": {"GET": "files"},
     "/drivers/{n}/form": {"GET": "form"},
+    "/drivers/{n}/form/{date}": {"GET": "form"},
     "/drivers/{n}/why/{month}": {"GET": "why"},
     "/drivers/{n}/chart/{month}": {"GET": "chart"},
     "/drivers/{n}/ahead/{date}/{time}": {"GET": "ahead"},
@@ -89,6 +91,7 @@ OFFICE_ROUTES = {
     "/incidents/{month}": {"GET": "incidents"},
     "/version": {"GET": "version"},
     "/drivers/{n}/key": {"POST": "key"},
+    "/drivers/{n}/name": {"POST": "name"},
 }
 # The same of a driver, whose number is the command's first argument.
 DRIVER_ROUTES = {
@@ -104,6 +107,7 @@ DRIVER_ROUTES = {
     "/me/debts": {"GET": "debts"},
     "/me/files": {"GET": "files"},
     "/me/form": {"GET": "form"},
+    "/me/form/{date}": {"GET": "form"},
     "/me/why/{month}": {"GET": "why"},
     "/me/chart/{month}": {"GET": "chart"},
     "/me/ahead/{date}/{time}": {"GET": "ahead"},
@@ -111,7 +115,8 @@ DRIVER_ROUTES = {
     "/me/driver": {"GET": "drivers"},
 }
 ROUTES = {**OFFICE_ROUTES, **DRIVER_ROUTES}
-WITH_INPUT = ["register", "import", "own", "enter", "key"]
+ADDING = ["register", "import", "own", "enter"]
+WITH_INPUT = [*ADDING, "key", "name"]
 
 
 # Heads
@@ -323,7 +328,7 @@ def reply_without_line(status: int) -> bytes:
 
 def reply_to_done(command: str, told: bytes) -> bytes:
     """The reply to a command that was done."""
-    is_added = command in WITH_INPUT and command != "key" and not told.startswith((b"repeated ", b"entered none"))
+    is_added = command in ADDING and not told.startswith((b"repeated ", b"entered none"))
     return reply_of(201 if is_added else 200, told, TYPES.get(command, TEXT))
 
 
