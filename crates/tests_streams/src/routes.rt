@@ -12,7 +12,7 @@ office POST /drivers/17/withdraw/1
 office POST /drivers/17/base/2024-03-04
 office POST /drivers/17/key
 office POST /drivers/17/name
-office POST /drivers/17/withdraw/1/2
+office POST /drivers/17/withdraw/1/1
 office GET /drivers/17/spans/2024-03
 office GET /drivers/17/gaps/2024-03
 office GET /drivers/17/sheet/2024-03
@@ -65,7 +65,7 @@ static STATUSES: &str = "\
 /drivers/17/base/2024-03-04     405 200 405 405  405 403 405 405  403 403 403 403  403 403 403 403  403 403 403 403
 /drivers/17/key                 405 200 405 405  405 403 405 405  403 403 403 403  403 403 403 403  403 403 403 403
 /drivers/17/name                405 200 405 405  405 403 405 405  403 403 403 403  403 403 403 403  403 403 403 403
-/drivers/17/withdraw/1/2        405 200 405 405  405 403 405 405  403 403 403 403  403 403 403 403  403 403 403 403
+/drivers/17/withdraw/1/1        405 200 405 405  405 403 405 405  403 403 403 403  403 403 403 403  403 403 403 403
 /drivers/17/spans/2024-03       200 405 405 405  403 405 405 405  403 403 403 403  403 403 403 403  403 403 403 403
 /drivers/17/gaps/2024-03        200 405 405 405  403 405 405 405  403 403 403 403  403 403 403 403  403 403 403 403
 /drivers/17/sheet/2024-03       200 405 405 405  403 405 405 405  403 403 403 403  403 403 403 403  403 403 403 403
