@@ -17,6 +17,7 @@ FAULTS = ["error: Memory", "error: AllocError"]
 MODULES = ["sheets", "reports", "readings", "evidence", "scans", "stretches"]
 WITHOUT_MEMORY = [  # ask for none
     "scans::a_year_of_office_hours_asks_for_no_memory",
+    "sheets::a_line_has_a_key_or_a_name",
     "sheets::numbers_are_read",
     "sheets::commands_that_were_done_have_lines",
     "sheets::faults_have_lines",
