@@ -29,6 +29,10 @@ ReadTells p (Err fault) content = content ≡ Err fault
 abbrev pub FileTells : Part → List ℕ → Result Content CardFault → Type 0
 FileTells p bytes content = ReadTells p (card_file bytes) content
 
+-- the part with this number gives the file a content
+abbrev pub HasContent : ℕ → List ℕ → Content → Type 0
+HasContent number bytes content = (part : Part) × (part_number part ≡ number) × FileTells part bytes (Ok content)
+
 -- the archive's fault for a fault in a card file: out of memory stays out of memory
 abbrev pub fault_of_card : CardFault → StoreFault
 fault_of_card card.Memory = Memory

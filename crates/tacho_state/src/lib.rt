@@ -2,6 +2,7 @@
 #![tactic(auto)]
 
 mod caller;
+mod content;
 mod driver;
 mod entry;
 mod fault;
@@ -15,6 +16,7 @@ mod reports;
 mod summary;
 
 pub use caller::Caller;
+pub use content::{CardContent, content_of};
 pub use driver::{Column, Driver};
 pub use entry::{Entered, Entry, EntryLine};
 pub use fault::StoreFault;

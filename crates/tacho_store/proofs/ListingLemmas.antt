@@ -16,7 +16,7 @@ use Rattle.tacho_state.specs.declared.fault.StoreFault.{StoreFault}
 use Rattle.tacho_state.specs.declared.fault.StoreFault.TheVariants.{Card, Memory, Store, UnknownDriver}
 use Rattle.tacho_state.specs.declared.file.FileSummary.{FileSummary}
 use Rattle.tacho_state.specs.Acts.{Answers}
-use Rattle.tacho_state.specs.Content.{FileTells, part_number}
+use Rattle.tacho_state.specs.Content.{FileTells, HasContent, part_number}
 use Rattle.tacho_state.specs.Files.{ListedFile, listed_file, listed_from, files_reading, told_file}
 use Rattle.tacho_state.specs.State.{Download, Driver, State, driver_of, download_from}
 use Rattle.tacho_state.specs.Steps.{Content, reading_of}
@@ -35,7 +35,7 @@ use Rattle.tacho_reading.proofs.LookUpLemmas.{the_driver}
 use Rattle.tacho_reading.proofs.RowLemmas.{eq_self, eq_not}
 use Rattle.tacho_reading.proofs.SeenLemmas.{still_archive, still_seen}
 use Rattle.tacho_reading.proofs.StateLemmas.{found_of}
-use Rattle.tacho_store.specs.Listing.{HasContent, IsFileOf}
+use Rattle.tacho_store.specs.Listing.{IsFileOf}
 use Rattle.tacho_store.proofs.StepsLemmas.{keeps_after}
 
 -- ---- the content of one file

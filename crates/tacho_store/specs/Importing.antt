@@ -14,7 +14,7 @@ use Rattle.tacho_tables.specs.Rows.{SpanRow}
 use Rattle.tacho_tables.specs.Tables.{Tables, HasTables, with_downloads}
 use Rattle.tacho_reading.specs.Standing.{Follows, span_row}
 use Rattle.tacho_reading.specs.Finding.{IsFindingFault}
-use Rattle.tacho_store.specs.declared.content.CardContent.{CardContent}
+use Rattle.tacho_state.specs.declared.content.CardContent.{CardContent}
 use Rattle.tacho_store.specs.declared.import.Importer.{Importer}
 use Rattle.tacho_store.specs.declared.news.News.{News}
 

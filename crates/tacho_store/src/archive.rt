@@ -6,7 +6,6 @@ ghost use Rattle.tacho_reading.specs.Kept.{IsBlank, SeesWhileOpen, LeavesOneOf, 
 ghost use Rattle.tacho_store.specs.Opening.{Makes, CarriesOver, IsMade, IsUnmade, TellsSchema, IsChecked, IsCarried, IsEmptyArchive, IsAdopted, IsLeftAlone, IsOld, IsOpeningFault, IsMigrated, IsNotMigrated};
 
 use crate::base::rebase;
-use crate::content::content_of;
 use crate::entering::enter;
 use crate::files::files;
 use crate::import::import;
@@ -26,7 +25,7 @@ use tacho_reading::reading::{
 use tacho_rules::Report;
 use tacho_state::{
     Caller, Driver, DriverSummary, Entered, Entry, EntryLine, FileSummary, Imported, Keeper,
-    StoreFault,
+    StoreFault, content_of,
 };
 use tacho_stretches::Stretch;
 use tacho_tables::{making, opening};

@@ -1,20 +1,19 @@
 ghost use Rattle.std.specs.Prelude.{◌≡◌, ◌≢◌, false, map, IfOk, IfErr, IfSome, IsNone};
-ghost use Rattle.tacho_state.specs.Content.{part_number};
+ghost use Rattle.tacho_state.specs.Content.{HasContent, part_number};
 ghost use Rattle.tacho_state.specs.Files.{files_reading, listed_file, told_file};
 ghost use Rattle.tacho_state.specs.State.{Driver, driver_of};
 ghost use Rattle.tacho_state.specs.Steps.{Content};
 ghost use Rattle.tacho_state.specs.Acts.{Answers};
 ghost use Rattle.tacho_reading.specs.Calls.{Tells};
 ghost use Rattle.tacho_reading.specs.Kept.{HasGivenUp, ReadsOn};
-ghost use Rattle.tacho_store.specs.Listing.{HasContent, IsFileOf};
+ghost use Rattle.tacho_store.specs.Listing.{IsFileOf};
 
-use crate::content::content_of;
 use sqlite::{Alter, Connection, Transaction};
 use std::alloc::Global;
 use tacho_card::Part;
 use tacho_reading::fault::store_fault;
 use tacho_reading::finding::driver_with;
-use tacho_state::{FileSummary, StoreFault, file_summary};
+use tacho_state::{FileSummary, StoreFault, content_of, file_summary};
 use tacho_tables::{StoredFile, downloads, opening};
 
 /// The part for which this number is stored, if there is one: 0 both, 1 first, 2 second.

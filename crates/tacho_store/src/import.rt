@@ -13,7 +13,6 @@ ghost use Rattle.tacho_reading.specs.Calls.{Tells, Steps, StepsGiven};
 ghost use Rattle.tacho_reading.specs.Kept.{ActsOn, SeesWhileOpen, IsSame};
 ghost use Rattle.tacho_store.specs.Importing.{importer, IsImporter, AreDecided, AreToAdd, AreToImport, import_turn, content_told, tables_after_download};
 
-use crate::content::CardContent;
 use crate::news::{News, news_of};
 use sqlite::{Alter, Connection, Transaction};
 use std::alloc::Global;
@@ -22,7 +21,7 @@ use tacho_reading::fault::store_fault;
 use tacho_reading::finding::driver_with;
 use tacho_reading::near::rows_near;
 use tacho_reading::spans::{line_of_stored, range_of, stored};
-use tacho_state::{Caller, Imported, StoreFault, first_number};
+use tacho_state::{Caller, CardContent, Imported, StoreFault, first_number};
 use tacho_tables::{SpanTable, StoredSpan, TableFault, downloads, drivers, opening, spans};
 use tacho_time::Span;
 

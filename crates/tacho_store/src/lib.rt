@@ -3,7 +3,6 @@
 
 mod archive;
 mod base;
-mod content;
 mod entering;
 mod files;
 mod import;

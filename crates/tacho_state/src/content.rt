@@ -4,9 +4,9 @@ ghost use Rattle.tacho_time.specs.Spans.{IsCanonical};
 ghost use Rattle.tacho_card.specs.declared.fault.CardFault.{CardFault as OwnFault};
 ghost use Rattle.tacho_state.specs.Content.{FileTells};
 
+use crate::fault::StoreFault;
 use std::alloc::Global;
 use tacho_card::{CardFile, Part, spans};
-use tacho_state::StoreFault;
 use tacho_time::Span;
 
 /// What a card file says, read by a part.
