@@ -213,6 +213,9 @@ n1 = refl
 n2 : fault_line fault.Order ≡ codes "N2 wrong order\n"
 n2 = refl
 
+z4 : fault_line fault.Period ≡ codes "Z4 period\n"
+z4 = refl
+
 p1 : fault_line fault.Part ≡ codes "P1 bad part\n"
 p1 = refl
 

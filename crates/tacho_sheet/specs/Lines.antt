@@ -112,6 +112,7 @@ fault_line (fault.Store f) = store_line f
 fault_line (fault.Sheet f) = sheet_line f
 fault_line fault.Number = codes "N1 bad number\n"
 fault_line fault.Order = codes "N2 wrong order\n"
+fault_line fault.Period = codes "Z4 period\n"
 fault_line fault.Part = codes "P1 bad part\n"
 fault_line fault.TooLarge = codes "X1 too large\n"
 fault_line fault.Device = codes "X2 device failed\n"

@@ -70,6 +70,8 @@ pub enum Fault {
     Number,
     /// N2: the second number of a range is less than the first.
     Order,
+    /// Z4: a period ends before it begins, is empty, or has more than 527,040 minutes (366 days).
+    Period,
     /// P1: no part of a card file has this name.
     Part,
     /// X1: the input is over the limit.

@@ -44,6 +44,6 @@ pub use reports::{breach_text, gap_text, owed_text, span_csv};
 pub use sheet::month_sheet;
 pub use standing::{push_standing, standing_head};
 pub use stretches::{debt_text, stretch_text};
-pub use text::{driver_text, entry_text, file_text};
+pub use text::{driver_text, entry_text, file_text, push_entry};
 pub use value::{read_key_line, read_name_line};
 pub use why::why_text;

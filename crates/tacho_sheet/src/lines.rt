@@ -24,6 +24,7 @@ pub fn fault_line(fault: Fault) -> FaultLine
         Fault::Sheet(fault) => line_of_sheet(fault),
         Fault::Number => line_of("N1 bad number\n"),
         Fault::Order => line_of("N2 wrong order\n"),
+        Fault::Period => line_of("Z4 period\n"),
         Fault::Part => line_of("P1 bad part\n"),
         Fault::TooLarge => line_of("X1 too large\n"),
         Fault::Device => line_of("X2 device failed\n"),

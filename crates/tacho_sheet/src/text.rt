@@ -22,8 +22,8 @@ pub fn entry_text(alloc: Global, entries: &[Entry]) -> Result<String, AllocError
     Ok(text)
 }
 
-/// Appends the line of an entry.
-fn push_entry(text: &mut String, entry: &Entry) -> Result<(), AllocError>
+/// Appends the line of an entry, as `entry_text` does for each.
+pub fn push_entry(text: &mut String, entry: &Entry) -> Result<(), AllocError>
     ensures { OnOk result (string_bytes text.new ≡ string_bytes text.old ++ entry_line entry.now) }
 {
     let number = entry.number;
