@@ -1,0 +1,4 @@
+pub mod TextLemmas
+pub mod CoverLemmas
+pub mod HandedLemmas
+pub mod ParcelLemmas

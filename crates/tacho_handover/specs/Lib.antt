@@ -1,0 +1,4 @@
+pub mod Covering
+pub mod Contents
+pub mod Handover
+pub mod Parcel
