@@ -24,6 +24,7 @@ media_type media.Text = codes "text/plain; charset=utf-8"
 media_type media.Csv = codes "text/csv; charset=utf-8"
 media_type media.Svg = codes "image/svg+xml"
 media_type media.Octets = codes "application/octet-stream"
+media_type media.Tar = codes "application/x-tar"
 
 unfoldable pub head_bytes : Status → MediaType → ℕ → List ℕ
 head_bytes s k n =

@@ -61,6 +61,8 @@ pub enum MediaType {
     Svg,
     /// The bytes of a file.
     Octets,
+    /// A tar file.
+    Tar,
 }
 
 impl MediaType {
@@ -74,6 +76,7 @@ impl MediaType {
             MediaType::Csv => b"text/csv; charset=utf-8",
             MediaType::Svg => b"image/svg+xml",
             MediaType::Octets => b"application/octet-stream",
+            MediaType::Tar => b"application/x-tar",
         }
     }
 }
