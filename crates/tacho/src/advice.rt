@@ -28,6 +28,7 @@ pub fn advice_on(fault: Fault) -> &'static str {
             "numbers are written without leading zeros; tacho drivers, entries and files list them"
         }
         Fault::Order => "the lower number comes first",
+        Fault::Period => "FROM is before PAST, and PAST at most 366 days after it",
         Fault::Part => "PART is both, first or second",
         Fault::TooLarge => "a card file or a text has at most 262144 bytes",
         Fault::Device => "standard input can't be read, or standard output can't be written",

@@ -28,11 +28,11 @@ other_name = refl
 
 -- ---- faults
 
--- status 1 after a refusal: of a date, of an input, of a number, of a part
+-- status 1 after a refusal: of a date, of an input, of a number, of a period, of a part
 refused : map exit_status
     (map (λ f. fault.Time f) (time.Shape ∷ time.NoSuchDate ∷ time.OutOfRange ∷ [])
-    ++ fault.TooLarge ∷ fault.Number ∷ fault.Order ∷ fault.Part ∷ [])
-    ≡ replicate 7 1
+    ++ fault.TooLarge ∷ fault.Number ∷ fault.Order ∷ fault.Period ∷ fault.Part ∷ [])
+    ≡ replicate 8 1
 refused = refl
 
 -- of a card or a card file

@@ -73,18 +73,22 @@ abbrev pub or_empty : Option Text → Text
 or_empty None = []
 or_empty (Some text) = text
 
--- the driver's number; below, the other argument: a part, a number, a date or a month; and the one after it: a time, or the last number of a
--- range
+-- the driver's number; below, the day among the arguments: a date, or the first day of a period; the other argument: a part, a number, a day
+-- or a month; and the one after it: a time, the last number of a range, or the past of a period
 abbrev pub driver_text : List Row → Text
 driver_text rows = or_empty (option_or (first_of (codes "DRIVER") rows) (first_of (codes "[DRIVER]") rows))
 
+abbrev pub day_text : List Row → Option Text
+day_text rows = option_or (option_or (first_of (codes "DATE") rows) (first_of (codes "[DATE]") rows)) (first_of (codes "FROM") rows)
+
 abbrev pub other_text : List Row → Text
 other_text rows =
-    or_empty (option_or (option_or (option_or (first_of (codes "PART") rows) (first_of (codes "NUMBER") rows))
-    (option_or (first_of (codes "DATE") rows) (first_of (codes "[DATE]") rows))) (first_of (codes "MONTH") rows))
+    or_empty (option_or (option_or (option_or (first_of (codes "PART") rows) (first_of (codes "NUMBER") rows)) (day_text rows))
+    (first_of (codes "MONTH") rows))
 
 abbrev pub next_text : List Row → Text
-next_text rows = or_empty (option_or (first_of (codes "TIME") rows) (first_of (codes "[LAST]") rows))
+next_text rows =
+    or_empty (option_or (option_or (first_of (codes "TIME") rows) (first_of (codes "[LAST]") rows)) (first_of (codes "PAST") rows))
 
 -- the job of a subcommand, with the arguments in these rows
 abbrev pub IsJobOf : Act → List Row → Job → Type 0

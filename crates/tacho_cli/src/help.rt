@@ -147,6 +147,8 @@ fn meaning_of(argument: Argument) -> &'static str {
         Argument::AnyLast => "The number of the last entry, to withdraw all from the first to it",
         Argument::Date => "A Monday, as 2024-03-04",
         Argument::AnyDate => "A day, as 2024-03-04: only gaps before it are printed",
+        Argument::From => "The first day of a period, as 2024-03-01",
+        Argument::Past => "The day after its last, at most 366 days later",
         Argument::Month => "A month, as 2024-03",
         Argument::DateOfTime => "A day, as 2024-03-07",
         Argument::Time => "The time of that day in UTC, as 12:00",

@@ -2,7 +2,7 @@ ghost use Rattle.std.specs.Prelude.{◌≡◌, [], IfOk, IfErr, Some, codes, fal
 ghost use Rattle.clap.specs.Words.{app_of, fault_of, first_of, found_of, kind_of, new_app, rows_of, rule_of, subcommand_of, takes};
 ghost use Rattle.clap.specs.declared.builder.command.Command.TheViews.{out-Command as fields_of};
 ghost use Rattle.tacho_desk.specs.Commands.{all_commands, name_of, row_of};
-ghost use Rattle.tacho_cli.specs.Words.{act_named, needs_subcommand, other_text, tacho_app, with_table, with_words, word_rule};
+ghost use Rattle.tacho_cli.specs.Words.{act_named, needs_subcommand, day_text, next_text, other_text, tacho_app, with_table, with_words, word_rule};
 ghost use Rattle.tacho_cli.specs.Words.{IsActUsage, IsJob, IsJobOf, IsNumbered, IsPortUsage, IsRefusal, IsUsage};
 
 use crate::help::{error_text, row_named};
@@ -105,13 +105,31 @@ fn required<'a>(words: &ArgMatches<'a>, id: &str) -> Result<&'a str, Usage>
     text_of(words, id).ok_or(Usage::Parser)
 }
 
-/// The argument other than the archive and the driver: a part, a number, a date or a month. An empty text if there is none.
+/// The day among the arguments: a date, or the first day of a period.
+fn day_of<'a>(words: &ArgMatches<'a>) -> Option<&'a str>
+    ensures { option_map (λ text. text.now) result ≡ day_text (rows_of (found_of words.now)) }
+{
+    let date = text_of(words, "DATE").or(text_of(words, "[DATE]"));
+    date.or(text_of(words, "FROM"))
+}
+
+/// The argument that may come after the other one: a time, the last number of a range, or the past of a period. An empty text if there is none.
+fn next_of<'a>(words: &ArgMatches<'a>) -> &'a str
+    ensures { result.now ≡ next_text (rows_of (found_of words.now)) }
+{
+    let next = text_of(words, "TIME").or(text_of(words, "[LAST]"));
+    next.or(text_of(words, "PAST")).unwrap_or("")
+}
+
+/// The argument other than the archive and the driver: a part, a number, a day or a month. An empty text if there is none.
 fn other_of<'a>(words: &ArgMatches<'a>) -> &'a str
     ensures { result.now ≡ other_text (rows_of (found_of words.now)) }
 {
     let number = text_of(words, "PART").or(text_of(words, "NUMBER"));
-    let date = text_of(words, "DATE").or(text_of(words, "[DATE]"));
-    number.or(date).or(text_of(words, "MONTH")).unwrap_or("")
+    number
+        .or(day_of(words))
+        .or(text_of(words, "MONTH"))
+        .unwrap_or("")
 }
 
 /// Makes the job of a subcommand from its arguments. Fails with `Usage::Numbers` if the port or the count isn't a valid number.
@@ -130,14 +148,13 @@ fn job_of<'a>(act: Act, words: &ArgMatches<'a>) -> Result<Job<'a>, Usage>
         Act::Check => Ok(Job::Check { archive: archive? }),
         Act::AtDesk(want) => {
             let driver = text_of(words, "DRIVER").or(text_of(words, "[DRIVER]"));
-            let next = text_of(words, "TIME").or(text_of(words, "[LAST]"));
             Ok(Job::AtDesk(DeskJob {
                 archive: archive?,
                 wish: Wish {
                     want,
                     driver: driver.unwrap_or("").as_bytes(),
                     word: other_of(words).as_bytes(),
-                    next: next.unwrap_or("").as_bytes(),
+                    next: next_of(words).as_bytes(),
                 },
             }))
         }

@@ -11,12 +11,13 @@ use Rattle.tacho_sheet.specs.Fault.{time_fault}
 use Rattle.tacho_sheet.specs.Number.{HasNoNumber, IsNumberText}
 use Rattle.tacho_sheet.specs.declared.fault.Fault.{Fault}
 use Rattle.tacho_sheet.specs.declared.fault.Fault.TheVariants as fault
-use Rattle.tacho_desk.specs.Arguments.{AreReadAsListed, IsBackward, IsFirstFault, IsReadAsListed}
+use Rattle.tacho_desk.specs.Arguments.{AreReadAsListed, IsBackward, IsFirstFault, IsNoPeriod, IsReadAsListed}
 use Rattle.tacho_desk.specs.Commands.{Row, all_commands}
-use Rattle.tacho_desk.specs.Words.{ByDriver, ByNumber, HasNoDriver, IsDriver, IsTask, IsWithdrawal, Wanted, by_part, by_time, day_if_named, minute_text_of, most_number, part_of}
+use Rattle.tacho_desk.specs.Words.{ByDriver, ByNumber, HasNoDriver, IsDriver, IsTask, IsWithdrawal, Wanted, by_part, by_time, day_if_named, minute_text_of, most_number, part_of, period_task}
+use Rattle.tacho_desk.specs.Range.{is_period}
 use Rattle.tacho_desk.specs.declared.argument.Argument.{Argument}
 use Rattle.tacho_desk.specs.declared.argument.Argument.TheVariants as argument
-use Rattle.tacho_desk.specs.declared.argument.Argument.TheVariants.{AnyDate, AnyDriver, AnyLast, Archive, Date, DateOfTime, Driver, Month, Number, Time}
+use Rattle.tacho_desk.specs.declared.argument.Argument.TheVariants.{AnyDate, AnyDriver, AnyLast, Archive, Date, DateOfTime, Driver, From, Month, Number, Past, Time}
 use Rattle.tacho_desk.specs.declared.table.Act.{Act}
 use Rattle.tacho_desk.specs.declared.table.Act.TheVariants.{AtDesk}
 use Rattle.tacho_desk.specs.declared.task.Task.{Task}
@@ -37,6 +38,7 @@ kinds_of want.Form = Driver ∷ AnyDate ∷ []
 kinds_of (want.Reading text) = Driver ∷ []
 kinds_of (want.MonthReading text) = Driver ∷ Month ∷ []
 kinds_of want.File = Driver ∷ Number ∷ []
+kinds_of want.Handover = Driver ∷ From ∷ Past ∷ []
 kinds_of want.Drivers = AnyDriver ∷ []
 kinds_of want.Version = []
 kinds_of want.Ahead = Driver ∷ DateOfTime ∷ Time ∷ []
@@ -119,6 +121,61 @@ range_last n word (digit ∷ next) f = (to, from) where
       inr (first, a, inr (last, b, ap Err e ∙ sym (ap (λ c. cond {A = Wanted} c (Err fault.Order) (Ok (task.WithdrawRange n (record { first = first; last = last })))) test)))
   from (inr (number, inr (good, none))) = absurd none
 
+-- the last two: a day, and one to which a period goes from it
+abbrev IsBadPast : List ℕ → List ℕ → Fault → Type 0
+IsBadPast word next f =
+    (((e : TimeFault) × (day_at next ≡ Err e) × (f ≡ time_fault e)) ⊎ (IsNoPeriod word next × (f ≡ fault.Period)))
+    ⊎ ((((day : ℕ) × (day_at next ≡ Ok day)) × ¬ IsNoPeriod word next) × ⊥)
+
+abbrev IsBadPeriod : List ℕ → List ℕ → Fault → Type 0
+IsBadPeriod word next f =
+    ((e : TimeFault) × (day_at word ≡ Err e) × (f ≡ time_fault e)) ⊎ (((day : ℕ) × (day_at word ≡ Ok day)) × IsBadPast word next f)
+
+-- the one task, or fault, is the other
+abbrev Is : Wanted → Wanted → Type 0
+Is a b = a ≡ b
+
+period_last : (n : ℕ) (word next : List ℕ) (f : Fault)
+    → (Err f ≡ by_time (day_at word) (λ from. by_time (day_at next) (λ past. period_task n from past))) ↔ IsBadPeriod word next f
+period_last n word next f = by (day_at word) refl (day_at next) refl where
+  by : (a : Result ℕ TimeFault) → day_at word ≡ a → (b : Result ℕ TimeFault) → day_at next ≡ b
+      → (Err f ≡ by_time a (λ from. by_time b (λ past. period_task n from past))) ↔ IsBadPeriod word next f
+  by (Err e) is b also = (to, from) where
+    to : Is (Err f) (Err (time_fault e)) → IsBadPeriod word next f
+    to same = inl (e, is, cc)
+
+    from : IsBadPeriod word next f → Is (Err f) (Err (time_fault e))
+    from (inl (other, it, same)) = (let one : other ≡ e = cc in ap Err (same ∙ ap time_fault one))
+    from (inr ((day, it), bad)) = absurd (let wrong : Ok day ≡ Err e = sym it ∙ is in cc)
+  by (Ok first) is (Err e) also = (to, from) where
+    to : Is (Err f) (Err (time_fault e)) → IsBadPeriod word next f
+    to same = inr ((first, is), inl (inl (e, also, cc)))
+
+    from : IsBadPeriod word next f → Is (Err f) (Err (time_fault e))
+    from (inl (other, it, same)) = absurd (let wrong : Ok first ≡ Err other = sym is ∙ it in cc)
+    from (inr (day, inl (inl (other, it, same)))) = (let one : other ≡ e = cc in ap Err (same ∙ ap time_fault one))
+    from (inr (day, inl (inr ((early, late, a, b, none), same)))) = absurd (let wrong : Ok late ≡ Err e = sym b ∙ also in cc)
+    from (inr (day, inr (good, none))) = absurd none
+  by (Ok first) is (Ok past) also = go (is_period first past) refl where
+    go : (t : Bool) → is_period first past ≡ t
+        → (Err f ≡ cond {A = Wanted} t (Ok (task.Handover n (record { from = first; past = past }))) (Err fault.Period)) ↔ IsBadPeriod word next f
+    go true e = (λ same. cc, from) where
+      from : IsBadPeriod word next f → Is (Err f) (Ok (task.Handover n (record { from = first; past = past })))
+      from (inl (other, it, same)) = absurd (let wrong : Ok first ≡ Err other = sym is ∙ it in cc)
+      from (inr (day, inl (inl (other, it, same)))) = absurd (let wrong : Ok past ≡ Err other = sym also ∙ it in cc)
+      from (inr (day, inl (inr ((a, b, one, two, none), same)))) =
+          absurd (let first_is : a ≡ first = cc in let past_is : b ≡ past = cc in let wrong : true ≡ false = sym e ∙ rw (first_is, past_is) at none in cc)
+      from (inr (day, inr (good, none))) = absurd none
+    go false e = (to, from) where
+      to : Is (Err f) (Err fault.Period) → IsBadPeriod word next f
+      to same = inr ((first, is), inl (inr ((first, past, is, also, e), cc)))
+
+      from : IsBadPeriod word next f → Is (Err f) (Err fault.Period)
+      from (inl (other, it, same)) = absurd (let wrong : Ok first ≡ Err other = sym is ∙ it in cc)
+      from (inr (day, inl (inl (other, it, same)))) = absurd (let wrong : Ok past ≡ Err other = sym also ∙ it in cc)
+      from (inr (day, inl (inr (none, same)))) = ap Err same
+      from (inr (day, inr (good, none))) = absurd none
+
 -- ---- all arguments
 
 -- a task is refused with the fault of the first bad one
@@ -148,6 +205,9 @@ refused_first (want.MonthReading text) driver word next c f =
 refused_first want.File driver word next c f =
     after_archive (driver_first (λ n. ByNumber most_number word (λ k w. w ≡ Ok (task.File n k))) c driver f
     (λ n. number_last (λ k. task.File n k) word f))
+refused_first want.Handover driver word next c f =
+    after_archive (driver_first (λ n w. w ≡ by_time (day_at word) (λ from. by_time (day_at next) (λ past. period_task n from past))) c driver f
+    (λ n. period_last n word next f))
 refused_first want.Drivers [] word next caller.Office f = grind arith
 refused_first want.Drivers driver word next c f = grind arith
 refused_first want.Version driver word next c f = after_archive (no_more task.Version f)

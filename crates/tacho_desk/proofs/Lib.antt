@@ -7,3 +7,4 @@ pub mod WordLemmas
 mod OwnLemmas
 mod PageFacts
 mod ArgumentLemmas
+mod HandoverLemmas

@@ -7,7 +7,10 @@ use Rattle.tacho_state.specs.Content.{FileTells, part_number}
 use Rattle.tacho_state.specs.State.{Driver, State, driver_of, held_spans}
 use Rattle.tacho_state.specs.Steps.{Content, Own, own_turn, import_by_driver, import_step}
 use Rattle.tacho_state.specs.declared.caller.Caller.TheVariants as caller
-use Rattle.tacho_desk.specs.Doing.{IsTextOf, in_words}
+use Rattle.tacho_handover.specs.Handover.{IsHandover}
+use Rattle.tacho_desk.specs.Doing.{IsFileOf, IsTextOf, in_words}
+use Rattle.tacho_desk.specs.Range.{Days}
+use Rattle.tacho_desk.specs.Version.{program_line}
 use Rattle.tacho_line.specs.declared.horizon.Horizon.{Horizon}
 use Rattle.tacho_law.specs.declared.breach.Breach.{Breach}
 use Rattle.tacho_law.specs.declared.debt.Debt.{Debt}
@@ -29,7 +32,7 @@ use Rattle.tacho_desk.specs.Own.{IsOwnTask, OneAnswer, OthersStay, SameAnswers}
 use Rattle.tacho_desk.specs.Tasks.{Does, IsAheadOf, IsForecastOf, IsFormOf, OfReport, OfStretches, ShowsForm, ShowsMonth, ShowsReading, cut_at, imported_told, want_of}
 use Rattle.tacho_state.proofs.PutLemmas.{found_number, put_found, put_other}
 use Rattle.tacho_desk.specs.Wants.{is_command}
-use Rattle.tacho_desk.specs.Told.{Answer, Long}
+use Rattle.tacho_desk.specs.Told.{Answer, File, Long}
 use Rattle.tacho_desk.specs.declared.task.Task.{Task}
 use Rattle.tacho_desk.specs.declared.task.Task.TheVariants as task
 
@@ -96,6 +99,12 @@ IsOne Is = (d : Driver) → IsOneText (Is d)
 one_text_of : (Is : Driver → List ℕ → Type 0) → IsOne Is → (o : Option Driver) (a b : Answer) → IsTextOf Is o a → IsTextOf Is o b → a ≡ b
 one_text_of Is one o a b h k = grind arith
 
+-- likewise of the bytes of a file
+one_file_of : (Is : Driver → List ℕ → Type 0) → IsOne Is → (o : Option Driver) (a b : Answer) → IsFileOf Is o a → IsFileOf Is o b → a ≡ b
+one_file_of Is one None a b h k = h ∙ sym k
+one_file_of Is one (Some d) (Ok (File a)) (Ok (File b)) h k = ap (λ (bytes : List ℕ). Ok (File bytes)) (one d a b h k)
+one_file_of Is one (Some d) a b h k = grind arith
+
 -- assuming what the laws below say
 module _ (one_content : (p : Part) (bytes : List ℕ) (a b : Result Content CardFault) → FileTells p bytes a → FileTells p bytes b → a ≡ b)
     (one_report : (held : List Span) (base : ℕ) (horizon other : Horizon) (found others : List Breach) (debts owed : List Debt)
@@ -114,7 +123,9 @@ module _ (one_content : (p : Part) (bytes : List ℕ) (a b : Result Content Card
     (one_ahead : (held : List Span) (stretches : List Judged) (minute : ℕ) (a b : List ℕ) → IsAheadText held stretches minute a
     → IsAheadText held stretches minute b → a ≡ b)
     (in_time : (held : List Span) (stretches : List Judged) (minute : ℕ) (text : List ℕ) → IsAheadText held stretches minute text
-    → ¬ (IsTooLate stretches minute)) where
+    → ¬ (IsTooLate stretches minute))
+    (one_handover : (program : List ℕ) (from past : ℕ) (d : Driver) (a b : List ℕ) → IsHandover program from past d a
+    → IsHandover program from past d b → a ≡ b) where
   -- a text of a report is unique, since the report is
   one_of_report : (Is : Driver → List Breach → List Debt → Horizon → List ℕ → Type 0)
       → ((d : Driver) (breaches : List Breach) (debts : List Debt) (horizon : Horizon) → IsOneText (Is d breaches debts horizon))
@@ -192,12 +203,35 @@ module _ (one_content : (p : Part) (bytes : List ℕ) (a b : Result Content Card
       let same : k.0 ≡ h.0 = one_stretches (held_spans d) (1440 * d.base) k.0 h.0 k.1 h.1 in
       one_forecast minute d h.0 a b h.2 (rw (← same) k.2)
 
-  -- each of a driver's own tasks has one answer
+  -- an import has one answer, and one state after it
+  one_import : (n : ℕ) (p : Part) (input : List ℕ) (s : State) (a b : Answer) (after left : State)
+      → Does (task.Import (caller.Driver n) p) input s a after → Does (task.Import (caller.Driver n) p) input s b left → (a ≡ b) × (after ≡ left)
+  one_import n p input s a b after left h k = (let content = one_content p input in grind arith)
+
+  -- each of a driver's own tasks that reads has one answer
+  one_told : (n : ℕ) (t : Task) → IsOwnTask n t → is_command (want_of t) ≡ false → (input : List ℕ) (s : State) (a b : Answer)
+      (after left : State) → Does t input s a after → Does t input s b left → a ≡ b
+  one_told n (task.Reading m text) theirs reads input s a b after left h k = one_reading text m s a b after left h k
+  one_told n (task.MonthReading m month text) theirs reads input s a b after left h k = one_month text month m s a b after left h k
+  one_told n (task.Form m before) theirs reads input s a b after left h k = one_form_answer before m s a b after left h k
+  one_told n (task.File m number) theirs reads input s a b after left h k = h.0 ∙ sym k.0
+  one_told n (task.Handover m period) theirs reads input s a b after left h k =
+      one_file_of _ (one_handover program_line period.from period.past) (driver_of m s) a b h.0 k.0
+  one_told n (task.Driver m) theirs reads input s a b after left h k = h.0 ∙ sym k.0
+  one_told n (task.Ahead m minute) theirs reads input s a b after left h k = one_ahead_of minute (driver_of m s) a b h.0 k.0
+  one_told n task.Version theirs reads input s a b after left h k = h.0 ∙ sym k.0
+  one_told n t theirs reads input s a b after left h k = grind arith
+
+  -- so each of them has one answer, and one state after it
   pub one_answer : OneAnswer
-  one_answer n t theirs input s a b after left h k =
-      let reading = λ (text : Reading) (n : ℕ). one_reading text n s a b after left in
-      let of_month = λ (text : MonthReading) (month n : ℕ). one_month text month n s a b after left in
-      let form = λ (before : Option ℕ) (n : ℕ). one_form_answer before n s a b after left in
-      let forecast = λ (minute n : ℕ). one_ahead_of minute (driver_of n s) a b in
-      let content = λ (p : Part). one_content p input in
-      grind arith
+  one_answer n t theirs input s a b after left = by (own_or_import n t theirs)
+    where
+      Once : Task → Type 0
+      Once t = Does t input s a after → Does t input s b left → (a ≡ b) × (after ≡ left)
+
+      by : (is_command (want_of t) ≡ false) ⊎ ((p : Part) × (t ≡ task.Import (caller.Driver n) p)) → Once t
+      by (inl reads) = λ h k. (
+        one_told n t theirs reads input s a b after left h k,
+        (reads_same n t theirs reads input s s refl a after h).0 ∙ sym (reads_same n t theirs reads input s s refl b left k).0,
+      )
+      by (inr (p, is)) = subst Once (sym is) (one_import n p input s a b after left)

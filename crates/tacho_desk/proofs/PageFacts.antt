@@ -12,27 +12,27 @@ use Rattle.tacho_desk.specs.declared.task.Task.TheVariants as task
 use Rattle.tacho_desk.specs.declared.want.MonthReading.TheVariants as month
 use Rattle.tacho_desk.specs.declared.want.Reading.TheVariants as reading
 use Rattle.tacho_desk.specs.declared.want.Want.{Want}
-use Rattle.tacho_desk.specs.declared.want.Want.TheVariants.{Ahead, Base, Drivers, Enter, File, Forecast, Form, Import, Key, MonthReading, Name, Reading, Register, Withdraw}
+use Rattle.tacho_desk.specs.declared.want.Want.TheVariants.{Ahead, Base, Drivers, Enter, File, Forecast, Form, Handover, Import, Key, MonthReading, Name, Reading, Register, Withdraw}
 
 -- ---- all kinds of tasks
 
 abbrev all_wants : List Want
 all_wants = Register ∷ Import ∷ Enter ∷ Withdraw ∷ Base ∷ Key ∷ Name ∷ Form ∷ (Reading reading.Breaches) ∷ (Reading reading.Owed) ∷ (Reading reading.Entries)
-    ∷ (MonthReading month.Spans) ∷ (MonthReading month.Gaps) ∷ (MonthReading month.Sheet) ∷ File ∷ Drivers ∷ Ahead ∷ Forecast ∷ []
+    ∷ (MonthReading month.Spans) ∷ (MonthReading month.Gaps) ∷ (MonthReading month.Sheet) ∷ File ∷ Handover ∷ Drivers ∷ Ahead ∷ Forecast ∷ []
 
 -- whether each has an input
 pub inputs : map takes_input all_wants
-    ≡ true ∷ true ∷ true ∷ false ∷ false ∷ true ∷ true ∷ false ∷ false ∷ false ∷ false ∷ false ∷ false ∷ false ∷ false ∷ false ∷ false ∷ false ∷ []
+    ≡ true ∷ true ∷ true ∷ false ∷ false ∷ true ∷ true ∷ false ∷ false ∷ false ∷ false ∷ false ∷ false ∷ false ∷ false ∷ false ∷ false ∷ false ∷ false ∷ []
 inputs = refl
 
 -- whether each changes the archive
 pub commands : map is_command all_wants
-    ≡ true ∷ true ∷ true ∷ true ∷ true ∷ true ∷ true ∷ false ∷ false ∷ false ∷ false ∷ false ∷ false ∷ false ∷ false ∷ false ∷ false ∷ false ∷ []
+    ≡ true ∷ true ∷ true ∷ true ∷ true ∷ true ∷ true ∷ false ∷ false ∷ false ∷ false ∷ false ∷ false ∷ false ∷ false ∷ false ∷ false ∷ false ∷ false ∷ []
 commands = refl
 
 -- whether each is a driver's own
 pub own : map is_own all_wants
-    ≡ false ∷ true ∷ false ∷ false ∷ false ∷ false ∷ false ∷ true ∷ true ∷ true ∷ true ∷ true ∷ true ∷ true ∷ true ∷ true ∷ true ∷ false ∷ []
+    ≡ false ∷ true ∷ false ∷ false ∷ false ∷ false ∷ false ∷ true ∷ true ∷ true ∷ true ∷ true ∷ true ∷ true ∷ true ∷ true ∷ true ∷ true ∷ false ∷ []
 own = refl
 
 -- ---- arguments

@@ -72,6 +72,7 @@ task_once want.Form c driver word next a b x y = of_driver c driver _ a b x y
 task_once (want.Reading text) c driver word next a b x y = of_driver c driver _ a b x y
 task_once (want.MonthReading text) c driver word next a b x y = of_driver c driver _ a b x y
 task_once want.File c driver word next a b x y = of_number c driver word _ a b x y
+task_once want.Handover c driver word next a b x y = of_driver c driver _ a b x y
 task_once want.Drivers caller.Office [] word next a b x y = x ∙ sym y
 task_once want.Drivers caller.Office (digit ∷ driver) word next a b x y = of_driver caller.Office (digit ∷ driver) _ a b x y
 task_once want.Drivers (caller.Driver n) driver word next a b x y = of_driver (caller.Driver n) driver _ a b x y

@@ -2,7 +2,7 @@
 use Rattle.std.specs.Prelude.{ℕ, List, [], ◌∷◌, codes, map}
 use Rattle.tacho_desk.specs.declared.argument.Argument.{Argument}
 use Rattle.tacho_desk.specs.declared.argument.Argument.TheVariants as argument
-use Rattle.tacho_desk.specs.declared.argument.Argument.TheVariants.{AnyDate, AnyDriver, AnyLast, Archive, Count, Date, DateOfTime, Driver, Month, Number, Part, Port, Time}
+use Rattle.tacho_desk.specs.declared.argument.Argument.TheVariants.{AnyDate, AnyDriver, AnyLast, Archive, Count, Date, DateOfTime, Driver, From, Month, Number, Part, Past, Port, Time}
 use Rattle.tacho_desk.specs.declared.table.Act.{Act}
 use Rattle.tacho_desk.specs.declared.table.Act.TheVariants.{AtDesk, Card, Check, Dump, Holder, Init, Listen, Migrate, Serve, Version}
 use Rattle.tacho_desk.specs.declared.table.Command.{Command}
@@ -17,6 +17,7 @@ use Rattle.tacho_desk.specs.declared.want.Want.TheVariants.{
   File,
   Forecast,
   Form,
+  Handover,
   Import,
   Key,
   MonthOfAll,
@@ -37,6 +38,8 @@ name_of Number = codes "NUMBER"
 name_of AnyLast = codes "[LAST]"
 name_of Date = codes "DATE"
 name_of AnyDate = codes "[DATE]"
+name_of From = codes "FROM"
+name_of Past = codes "PAST"
 name_of Month = codes "MONTH"
 name_of DateOfTime = codes "DATE"
 name_of Time = codes "TIME"
@@ -92,6 +95,8 @@ all_commands =
     ∷ row (codes "file") (Archive ∷ Driver ∷ Number ∷ []) (AtDesk File)
     (codes "/drivers/{driver}/files/{word}" ∷ codes "/me/files/{word}" ∷ [])
     ∷ row (codes "files") (Archive ∷ Driver ∷ []) (AtDesk (Reading Files)) (codes "/drivers/{driver}/files" ∷ codes "/me/files" ∷ [])
+    ∷ row (codes "handover") (Archive ∷ Driver ∷ From ∷ Past ∷ []) (AtDesk Handover)
+    (codes "/drivers/{driver}/handover/{word}/{next}" ∷ codes "/me/handover/{word}/{next}" ∷ [])
     ∷ row (codes "drivers") (Archive ∷ AnyDriver ∷ []) (AtDesk Drivers)
     (codes "/drivers" ∷ codes "/drivers/{driver}" ∷ codes "/me/driver" ∷ [])
     ∷ row (codes "stretches") (Archive ∷ Driver ∷ []) (AtDesk (Reading Stretches))

@@ -8,7 +8,7 @@ use Rattle.tacho_sheet.specs.declared.fault.Fault.{Fault}
 use Rattle.tacho_sheet.specs.declared.fault.Fault.TheVariants as fault
 use Rattle.tacho_time.specs.declared.fault.TimeFault.TheVariants as time
 use Rattle.tacho_sheet.specs.Fault.{IsFailure, fault_of_store}
-use Rattle.tacho_desk.specs.Told.{Answer, Told, Long}
+use Rattle.tacho_desk.specs.Told.{Answer, Told, File, Long}
 
 -- a relation between the answer and the state after it
 abbrev pub Doing : Type 1
@@ -40,6 +40,15 @@ IsText Is answer = ⊥
 abbrev pub IsTextOf : (Driver → List ℕ → Type 0) → Option Driver → Answer → Type 0
 IsTextOf Is None answer = answer ≡ Err (fault_of_store store.UnknownDriver)
 IsTextOf Is (Some d) answer = IsText (Is d) answer
+
+-- the answer is the bytes of a file with this property; below, for the driver, or S4 if there is none
+abbrev pub IsFile : (List ℕ → Type 0) → Answer → Type 0
+IsFile Is (Ok (File bytes)) = Is bytes
+IsFile Is answer = ⊥
+
+abbrev pub IsFileOf : (Driver → List ℕ → Type 0) → Option Driver → Answer → Type 0
+IsFileOf Is None answer = answer ≡ Err (fault_of_store store.UnknownDriver)
+IsFileOf Is (Some d) answer = IsFile (Is d) answer
 
 -- the answer is a text for the driver with the number; the state stays as it was
 abbrev pub Shows : (Driver → List ℕ → Type 0) → ℕ → State → Doing

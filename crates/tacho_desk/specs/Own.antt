@@ -15,6 +15,7 @@ IsOwnTask n (task.Reading m text) = m ≡ n
 IsOwnTask n (task.MonthReading m month text) = m ≡ n
 IsOwnTask n (task.Form m before) = m ≡ n
 IsOwnTask n (task.File m number) = m ≡ n
+IsOwnTask n (task.Handover m period) = m ≡ n
 IsOwnTask n (task.Driver m) = m ≡ n
 IsOwnTask n (task.Ahead m minute) = m ≡ n
 IsOwnTask n task.Version = Unit {0}

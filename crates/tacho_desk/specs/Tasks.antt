@@ -38,10 +38,11 @@ use Rattle.tacho_sheet.specs.Reports.{breach_text, owed_text, IsGapText, IsMonth
 use Rattle.tacho_sheet.specs.Text.{entry_line, file_line, summary_line}
 use Rattle.tacho_sheet.specs.Ahead.{IsAheadText, IsTooLate}
 use Rattle.tacho_sheet.specs.Why.{IsMonthWhy}
-use Rattle.tacho_desk.specs.Doing.{Doing, IsText, Lists, Refuses, Shows, Steps}
+use Rattle.tacho_handover.specs.Handover.{IsHandover}
+use Rattle.tacho_desk.specs.Doing.{Doing, IsFileOf, IsText, Lists, Refuses, Shows, Steps}
 use Rattle.tacho_sheet.specs.Fault.{card_fault, fault_of_store, sheet_fault, time_fault}
-use Rattle.tacho_desk.specs.Range.{Numbers}
-use Rattle.tacho_desk.specs.Version.{version_text}
+use Rattle.tacho_desk.specs.Range.{Days, Numbers}
+use Rattle.tacho_desk.specs.Version.{program_line, version_text}
 use Rattle.tacho_desk.specs.Told.{Answer, Told, Added, Line, Long, File}
 use Rattle.tacho_sheet.specs.declared.fault.Fault.{Fault}
 use Rattle.tacho_desk.specs.declared.task.Task.{Task}
@@ -177,6 +178,11 @@ ShowsAhead m n s answer after = IsAheadOf m (driver_of n s) answer × (after ≡
 abbrev pub ShowsFile : ℕ → ℕ → State → Doing
 ShowsFile n number s = Lists (λ file. File file) s (file_reading n number s)
 
+-- what is handed over of a driver and a period
+abbrev pub ShowsHandover : Days → ℕ → State → Doing
+ShowsHandover period n s answer after =
+    IsFileOf (IsHandover program_line period.from period.past) (driver_of n s) answer × (after ≡ s)
+
 -- the list of all drivers, a line for each, in the order of their numbers
 abbrev pub ShowsDrivers : State → Doing
 ShowsDrivers s answer after =
@@ -237,6 +243,7 @@ want_of (task.MonthReading n m text) = want.MonthReading text
 want_of (task.Ahead n minute) = want.Ahead
 want_of (task.Forecast minute) = want.Forecast
 want_of (task.File n number) = want.File
+want_of (task.Handover n period) = want.Handover
 want_of task.Drivers = want.Drivers
 want_of (task.Driver n) = want.Drivers
 want_of task.Version = want.Version
@@ -258,6 +265,7 @@ Does (task.MonthReading n m text) input s = ShowsMonth text m n s
 Does (task.Ahead n minute) input s = ShowsAhead minute n s
 Does (task.Forecast minute) input s = ShowsForecast minute s
 Does (task.File n number) input s = ShowsFile n number s
+Does (task.Handover n period) input s = ShowsHandover period n s
 Does task.Drivers input s = ShowsDrivers s
 Does (task.Driver n) input s = ShowsDriver n s
 Does task.Version input s = ShowsVersion s

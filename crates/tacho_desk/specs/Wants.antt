@@ -1,7 +1,7 @@
 -- Trusted: The kinds of tasks at an archive: which have an input, which change the archive, and which are a driver's own.
 use Rattle.std.specs.Prelude.{Bool, true, false}
 use Rattle.tacho_desk.specs.declared.want.Want.{Want}
-use Rattle.tacho_desk.specs.declared.want.Want.TheVariants.{Ahead, Base, Drivers, Enter, File, Form, Import, Key, MonthReading, Name, Reading, Register, Version, Withdraw}
+use Rattle.tacho_desk.specs.declared.want.Want.TheVariants.{Ahead, Base, Drivers, Enter, File, Form, Handover, Import, Key, MonthReading, Name, Reading, Register, Version, Withdraw}
 
 -- the task has an input: a text of CSV, a card file, a key or a name
 abbrev pub takes_input : Want → Bool
@@ -30,6 +30,7 @@ is_own (Reading text) = true
 is_own (MonthReading text) = true
 is_own Form = true
 is_own File = true
+is_own Handover = true
 is_own Drivers = true
 is_own Version = true
 is_own Ahead = true

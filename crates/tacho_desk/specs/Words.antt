@@ -10,6 +10,7 @@ use Rattle.tacho_sheet.specs.Number.{HasNoNumber, IsNumberText}
 use Rattle.tacho_sheet.specs.Fault.{time_fault}
 use Rattle.tacho_sheet.specs.declared.fault.Fault.{Fault}
 use Rattle.tacho_sheet.specs.declared.fault.Fault.TheVariants as fault
+use Rattle.tacho_desk.specs.Range.{is_period}
 use Rattle.tacho_desk.specs.declared.task.Task.{Task}
 use Rattle.tacho_desk.specs.declared.task.Task.TheVariants as task
 use Rattle.tacho_desk.specs.declared.want.Want.{Want}
@@ -17,7 +18,8 @@ use Rattle.tacho_desk.specs.declared.want.Want.TheVariants as want
 use Rattle.tacho_desk.specs.declared.want.Wish.{Wish as WishValue}
 
 -- what is asked for, with the texts of its arguments: the driver's number; a part of a card file, a number, a day or a month; and the one
--- after it: the time of a minute on that day, or the last number of a range. An argument that isn't there is an empty text
+-- after it: the time of a minute on that day, the last number of a range, or the past of a period. An argument that isn't there is an empty
+-- text
 pub record Wish : Type 0 where
   pub want : Want
   pub driver : List ℕ
@@ -100,6 +102,10 @@ abbrev pub day_if_named : List ℕ → Result (Option ℕ) TimeFault
 day_if_named [] = Ok None
 day_if_named text = some_day (day_at text)
 
+-- the handover of a driver and a period; Z4 if it has no day, or more than 366 of them
+abbrev pub period_task : ℕ → ℕ → ℕ → Wanted
+period_task n from past = if is_period from past then Ok (task.Handover n (record { from = from; past = past })) else Err fault.Period
+
 -- the list of all drivers, if the office names none; otherwise what is listed of one driver
 abbrev pub IsDriversTask : Caller → List ℕ → Wanted → Type 0
 IsDriversTask caller.Office [] wanted = wanted ≡ Ok task.Drivers
@@ -120,6 +126,8 @@ IsTask (want.MonthReading text) c driver word next wanted =
     ByDriver c driver (λ n w. w ≡ by_time (month_at word) (λ month. Ok (task.MonthReading n month text))) wanted
 IsTask want.File c driver word next wanted =
     ByDriver c driver (λ n. ByNumber most_number word (λ k w. w ≡ Ok (task.File n k))) wanted
+IsTask want.Handover c driver word next wanted =
+    ByDriver c driver (λ n w. w ≡ by_time (day_at word) (λ from. by_time (day_at next) (λ past. period_task n from past))) wanted
 IsTask want.Drivers c driver word next wanted = IsDriversTask c driver wanted
 IsTask want.Version c driver word next wanted = wanted ≡ Ok task.Version
 IsTask (want.MonthOfAll text) c driver word next wanted = wanted ≡ by_time (month_at word) (λ month. Ok (task.MonthOfAll month text))

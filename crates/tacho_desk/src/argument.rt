@@ -17,6 +17,10 @@ pub enum Argument {
     Date,
     /// A day, or nothing.
     AnyDate,
+    /// The first day of a period.
+    From,
+    /// The day after the last of a period.
+    Past,
     /// A month.
     Month,
     /// The day of a minute. The next argument is its time.
@@ -48,6 +52,8 @@ impl Argument {
             Argument::AnyLast => "[LAST]",
             Argument::Date => "DATE",
             Argument::AnyDate => "[DATE]",
+            Argument::From => "FROM",
+            Argument::Past => "PAST",
             Argument::Month => "MONTH",
             Argument::DateOfTime => "DATE",
             Argument::Time => "TIME",

@@ -8,6 +8,7 @@ ghost use Rattle.tacho_desk.specs.Own.{OneAnswer, OthersStay, RefusalsStay, Same
 ghost use Rattle.tacho_desk.specs.Words.{IsTask, Wanted};
 ghost use Rattle.tacho_desk.specs.declared.want.Want.{Want};
 
+use tacho_handover::laws::one_handover;
 use tacho_rules::laws::one_report;
 use tacho_sheet::laws::{
     one_ahead_text, one_chart_of_a_month, one_form, one_sheet_of_a_month, one_text_of_a_month,
@@ -52,4 +53,5 @@ pub fn own_tasks_have_one_answer()
     one_chart_of_a_month();
     one_why_of_a_month();
     one_ahead_text();
+    one_handover();
 }

@@ -5,15 +5,15 @@ ghost use Rattle.tacho_desk.specs.Commands.{all_commands, row_of};
 
 use self::Act::{AtDesk, Card, Check, Dump, Holder, Init, Listen, Migrate, Serve, Version};
 use crate::argument::Argument::{
-    self, AnyDate, AnyDriver, AnyLast, Archive, Count, Date, DateOfTime, Driver, Month, Number,
-    Part, Port, Time,
+    self, AnyDate, AnyDriver, AnyLast, Archive, Count, Date, DateOfTime, Driver, From, Month,
+    Number, Part, Past, Port, Time,
 };
 use crate::want::MonthOfAll::{Incidents, Overview, Standing};
 use crate::want::MonthReading::{Chart, Gaps, Sheet, Spans, Why};
 use crate::want::Reading::{Breaches, Debts, Entries, Files, Owed, Stretches};
 use crate::want::Want::{
-    self, Ahead, Base, Drivers, Enter, File, Forecast, Form, Import, Key, MonthOfAll, MonthReading,
-    Name, Reading, Register, Withdraw,
+    self, Ahead, Base, Drivers, Enter, File, Forecast, Form, Handover, Import, Key, MonthOfAll,
+    MonthReading, Name, Reading, Register, Withdraw,
 };
 
 /// What a command does.
@@ -58,7 +58,7 @@ pub struct Command {
 }
 
 /// The commands.
-static COMMANDS: [Command; 35] = [
+static COMMANDS: [Command; 36] = [
     Command {
         name: "dump",
         about: "Prints the spans in the value of an EF Driver_Activity_Data (0504), one per line",
@@ -222,6 +222,16 @@ static COMMANDS: [Command; 35] = [
         arguments: &[Archive, Driver],
         act: AtDesk(Reading(Files)),
         paths: &["/drivers/{driver}/files", "/me/files"],
+    },
+    Command {
+        name: "handover",
+        about: "Prints a tar file for an inspection: a driver's card files that cover the days from FROM to before PAST, their entries, and a list of contents",
+        arguments: &[Archive, Driver, From, Past],
+        act: AtDesk(Handover),
+        paths: &[
+            "/drivers/{driver}/handover/{word}/{next}",
+            "/me/handover/{word}/{next}",
+        ],
     },
     Command {
         name: "drivers",

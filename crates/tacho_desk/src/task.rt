@@ -4,10 +4,11 @@ ghost use Rattle.tacho_desk.specs.Told.{answer_of};
 ghost use Rattle.tacho_desk.specs.Wants.{is_command, looks_ahead};
 
 use crate::day::ReadDay;
+use crate::period::Period;
 use crate::range::EntryRange;
 use crate::text::Text;
 use crate::want::{MonthOfAll, MonthReading, Reading};
-use crate::{all, commands, readings};
+use crate::{all, commands, handover, readings};
 use std::alloc::Global;
 use tacho_card::Part;
 use tacho_sheet::Fault;
@@ -86,6 +87,11 @@ pub enum Task {
         driver: u32,
         number: u32,
     },
+    /// Hands over what the archive has of a driver and a period.
+    Handover {
+        driver: u32,
+        period: Period,
+    },
     /// Lists all drivers.
     Drivers,
     /// Reads what is listed of one driver.
@@ -132,6 +138,7 @@ pub fn carry_out<K: Keeper>(
         Task::Ahead { driver, minute } => readings::ahead(alloc, keeper, driver, minute),
         Task::Forecast { minute } => all::forecast(alloc, keeper, minute),
         Task::File { driver, number } => readings::file(alloc, keeper, driver, number),
+        Task::Handover { driver, period } => handover::handover(alloc, keeper, driver, period),
         Task::Drivers => readings::drivers(alloc, keeper),
         Task::Driver { driver } => readings::driver(alloc, keeper, driver),
         Task::Version => readings::version(keeper),

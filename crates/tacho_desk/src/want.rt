@@ -29,6 +29,8 @@ pub enum Want {
     Forecast,
     /// Read a card file of the archive.
     File,
+    /// Read what is handed over of a driver and a period, as a tar file.
+    Handover,
     /// List all drivers, or one of them.
     Drivers,
     /// Read the version of the program.
@@ -109,6 +111,6 @@ pub struct Wish<'a> {
     pub driver: &'a [u8],
     /// The other argument: a part of a card file, a number, a day or a month. An empty text if there is none.
     pub word: &'a [u8],
-    /// The argument after `word`: the time of a minute, or the last number of a range. An empty text if there is none.
+    /// The argument after `word`: the time of a minute, the last number of a range, or the past of a period. An empty text if there is none.
     pub next: &'a [u8],
 }

@@ -1,11 +1,12 @@
 ghost use Rattle.std.specs.Prelude.{◌≡◌, IfOk, MatchResult};
-ghost use Rattle.tacho_time.specs.Reading.{minute_at};
+ghost use Rattle.tacho_time.specs.Reading.{day_at, minute_at};
 ghost use Rattle.tacho_sheet.specs.Number.{HasNoNumber, IsNumberText};
 ghost use Rattle.tacho_desk.specs.Tasks.{want_of};
 ghost use Rattle.tacho_desk.specs.declared.task.Task.TheVariants as task;
-ghost use Rattle.tacho_desk.specs.Words.{HasNoDriver, IsDriver, IsDriversTask, IsTask, IsWithdrawal, by_part, day_if_named, minute_text_of, most_number, part_of as part_named};
+ghost use Rattle.tacho_desk.specs.Words.{HasNoDriver, IsDriver, IsDriversTask, IsTask, IsWithdrawal, by_part, by_time, day_if_named, period_task, minute_text_of, most_number, part_of as part_named};
 
 use crate::day::ReadDay;
+use crate::period::Period;
 use crate::range::EntryRange;
 use crate::task::Task;
 use crate::want::{Want, Wish};
@@ -119,6 +120,19 @@ fn day_if_named(text: &[u8]) -> Result<Option<ReadDay>, TimeFault>
     Ok(Some(ReadDay::read(text)?))
 }
 
+/// The handover of a driver and the period from one day to before another: Z1 to Z3 of each, and Z4 if the period has no day or more than 366.
+fn handover_of(driver: u32, from: &[u8], past: &[u8]) -> Result<Task, Fault>
+    ensures task { result ≡ by_time (day_at from.now) (λ first. by_time (day_at past.now) (λ end. period_task driver first end)) }
+    ensures want { IfOk result (λ task. want_of task ≡ Want.Handover) }
+{
+    let from = ReadDay::read(from)?;
+    let past = ReadDay::read(past)?;
+    match Period::new(from, past) {
+        Some(period) => Ok(Task::Handover { driver, period }),
+        None => Err(Fault::Period),
+    }
+}
+
 /// The list of all drivers, if the office names none. Otherwise what is listed of one driver.
 fn drivers_of(caller: Caller, text: &[u8]) -> Result<Task, Fault>
     ensures task { IsDriversTask caller text.now result }
@@ -132,7 +146,7 @@ fn drivers_of(caller: Caller, text: &[u8]) -> Result<Task, Fault>
 }
 
 /// Makes the task that a caller asks for. Reads its arguments from left to right: the driver's number (N1), which only the office gives, then
-/// a part (P1), the number of an entry or a download, or those of a range of entries (N1, N2), a day, a month or a minute (Z1 to Z3).
+/// a part (P1), the number of an entry or a download, or those of a range of entries (N1, N2), a day, a month, a minute or a period (Z1 to Z4).
 pub fn task_of(caller: Caller, wish: Wish<'_>) -> Result<Task, Fault>
     ensures task { IsTask wish.entry.want caller wish.entry.driver.now wish.entry.word.now wish.entry.next.now result }
     ensures want { IfOk result (λ task. want_of task ≡ wish.entry.want) }
@@ -189,6 +203,10 @@ pub fn task_of(caller: Caller, wish: Wish<'_>) -> Result<Task, Fault>
             let driver = driver_of(caller, driver)?;
             let number = number_of(word)?;
             Ok(Task::File { driver, number })
+        }
+        Want::Handover => {
+            let driver = driver_of(caller, driver)?;
+            handover_of(driver, word, next)
         }
         Want::Drivers => drivers_of(caller, driver),
         Want::Version => Ok(Task::Version),

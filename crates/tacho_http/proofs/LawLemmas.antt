@@ -1,9 +1,13 @@
 -- Why a driver's request depends on the driver's rows alone, and why 503 leaves the state as it was.
-use Rattle.std.proofs.Common.{◌≡◌, ◌≢◌, ◌∙◌, ℕ, Bool, true, false, List, Option, Some, None, Result, Ok, Err, arith, bytes_eq, inl, inr}
+use Rattle.std.proofs.Common.{◌≡◌, ◌≢◌, ◌∙◌, ℕ, Bool, true, false, cond, subst, List, Option, Some, None, Result, Ok, Err, arith, bytes_eq, inl, inr}
 use Rattle.std.proofs.Common.{refl, sym, ap, take}
 use Rattle.std.specs.Prelude.{◌↔◌, IfOk}
 use Rattle.httparse.specs.Grammar.{RequestHead}
 use Rattle.httparse.proofs.GrammarLemmas.{request_unique}
+use Rattle.tacho_time.specs.Reading.{day_at, minute_at, month_at}
+use Rattle.tacho_time.specs.declared.fault.TimeFault.{TimeFault}
+use Rattle.tacho_card.specs.declared.file.Part.{Part}
+use Rattle.tacho_sheet.specs.declared.fault.Fault.TheVariants as fault
 use Rattle.tacho_state.specs.State.{State, driver_of}
 use Rattle.tacho_state.specs.Steps.{owner}
 use Rattle.tacho_state.specs.declared.caller.Caller.{Caller}
@@ -16,12 +20,14 @@ use Rattle.tacho_desk.proofs.WordLemmas.{task_once}
 use Rattle.tacho_desk.specs.Own.{IsOwnTask, OneAnswer, OthersStay, RefusalsStay, SameAnswers}
 use Rattle.tacho_desk.specs.Tasks.{Does, want_of}
 use Rattle.tacho_desk.specs.Told.{Answer}
-use Rattle.tacho_desk.specs.Words.{IsTask, Wanted, Wish}
+use Rattle.tacho_desk.specs.Range.{is_period}
+use Rattle.tacho_desk.specs.Words.{ByDriver, ByNumber, IsTask, Wanted, Wish, by_part, by_time, day_if_named, minute_text_of, most_number, part_of, period_task}
 use Rattle.tacho_desk.specs.declared.task.Task.{Task}
 use Rattle.tacho_desk.specs.declared.task.Task.TheVariants as task
 use Rattle.tacho_message.specs.Request.{key_of}
 use Rattle.tacho_desk.specs.Wants.{is_own}
 use Rattle.tacho_desk.specs.declared.want.Want.{Want}
+use Rattle.tacho_desk.specs.declared.want.Want.TheVariants as want
 use Rattle.tacho_http.specs.Access.{OwnWants}
 use Rattle.tacho_http.specs.Asked.{asker_of, wish_of}
 use Rattle.tacho_http.specs.declared.places.Asker.TheVariants as asker
@@ -146,11 +152,64 @@ keeps_503 refusals office input s _ _ r e = refl
 
 -- ---- a driver's requests are for the driver's own tasks
 
+-- a driver's arguments name that driver
+by_driver : (n : ℕ) (driver : List ℕ) (Is : ℕ → Wanted → Type 0) (t : Task) → ByDriver (caller.Driver n) driver Is (Ok t) → Is n (Ok t)
+by_driver n driver Is t (inl (none, e)) = absurd none
+by_driver n driver Is t (inr (m, is, h)) = subst (λ (k : ℕ). Is k (Ok t)) is h
+
+-- what was read, where a task is made of it
+by_read : {A : Type 0} (read : Result A TimeFault) (make : A → Wanted) (t : Task) → Ok t ≡ by_time read make → (a : A) × (Ok t ≡ make a)
+by_read (Ok a) make t e = (a, e)
+by_read (Err f) make t e = absurd (let wrong = e in cc)
+
+-- the one task is the other
+own_too : (n : ℕ) (t x : Task) (w : Wanted) → w ≡ Ok t → w ≡ Ok x → IsOwnTask n x → IsOwnTask n t
+own_too n t x w is also own = subst (λ (y : Task). IsOwnTask n y) (let same : x ≡ t = cc in same) own
+
+own_import : (n : ℕ) (part : Option Part) (t : Task) → Ok t ≡ by_part part (λ p. task.Import (caller.Driver n) p) → IsOwnTask n t
+own_import n None t e = absurd (let wrong = e in cc)
+own_import n (Some p) t e = own_too n t (task.Import (caller.Driver n) p) (Ok t) refl e refl
+
+own_file : (n : ℕ) (word : List ℕ) (t : Task) → ByNumber most_number word (λ k w. w ≡ Ok (task.File n k)) (Ok t) → IsOwnTask n t
+own_file n word t (inl (none, e)) = absurd (let wrong = e in cc)
+own_file n word t (inr (k, is, e)) = own_too n t (task.File n k) (Ok t) refl e refl
+
+own_period : (n from past : ℕ) (t : Task) → Ok t ≡ period_task n from past → IsOwnTask n t
+own_period n from past t e = by (is_period from past) e
+  where
+    by : (b : Bool) → Ok t ≡ cond {A = Wanted} b (Ok (task.Handover n (record { from = from; past = past }))) (Err fault.Period) → IsOwnTask n t
+    by true e = own_too n t (task.Handover n (record { from = from; past = past })) (Ok t) refl e refl
+    by false e = absurd (let wrong = e in cc)
+
 -- what a driver may ask for makes a task of that driver
 task_is_own : (w : Want) (n : ℕ) (driver word next : List ℕ) (t : Task) → is_own w ≡ true
     → IsTask w (caller.Driver n) driver word next (Ok t) → IsOwnTask n t
-task_is_own w n driver word next (task.Import c p) own is = grind arith
-task_is_own w n driver word next t own is = grind arith
+task_is_own want.Import n driver word next t own is = own_import n (part_of word) t is
+task_is_own (want.Reading text) n driver word next t own is =
+    own_too n t (task.Reading n text) (Ok t) refl (by_driver n driver (λ n w. w ≡ Ok (task.Reading n text)) t is) refl
+task_is_own (want.MonthReading text) n driver word next t own is =
+    let read = by_read (month_at word) (λ month. Ok (task.MonthReading n month text)) t
+    (by_driver n driver (λ n w. w ≡ by_time (month_at word) (λ month. Ok (task.MonthReading n month text))) t is) in
+    own_too n t (task.MonthReading n read.0 text) (Ok t) refl read.1 refl
+task_is_own want.Form n driver word next t own is =
+    let read = by_read (day_if_named word) (λ day. Ok (task.Form n day)) t
+    (by_driver n driver (λ n w. w ≡ by_time (day_if_named word) (λ day. Ok (task.Form n day))) t is) in
+    own_too n t (task.Form n read.0) (Ok t) refl read.1 refl
+task_is_own want.File n driver word next t own is =
+    own_file n word t (by_driver n driver (λ n. ByNumber most_number word (λ k w. w ≡ Ok (task.File n k))) t is)
+task_is_own want.Handover n driver word next t own is =
+    let from = by_read (day_at word) (λ from. by_time (day_at next) (λ past. period_task n from past)) t
+    (by_driver n driver (λ n w. w ≡ by_time (day_at word) (λ from. by_time (day_at next) (λ past. period_task n from past))) t is) in
+    let past = by_read (day_at next) (λ past. period_task n from.0 past) t from.1 in
+    own_period n from.0 past.0 t past.1
+task_is_own want.Drivers n driver word next t own is =
+    own_too n t (task.Driver n) (Ok t) refl (by_driver n driver (λ n w. w ≡ Ok (task.Driver n)) t is) refl
+task_is_own want.Ahead n driver word next t own is =
+    let read = by_read (minute_at (minute_text_of word next)) (λ minute. Ok (task.Ahead n minute)) t
+    (by_driver n driver (λ n w. w ≡ by_time (minute_at (minute_text_of word next)) (λ minute. Ok (task.Ahead n minute))) t is) in
+    own_too n t (task.Ahead n read.0) (Ok t) refl read.1 refl
+task_is_own want.Version n driver word next t own is = own_too n t task.Version (Ok t) refl is tt
+task_is_own w n driver word next t own is = absurd (let wrong = own in cc)
 
 -- ---- isolation
 

@@ -47,8 +47,8 @@ pub memory_is_out : map fault_status (card_fault card.Memory ∷ sheet_fault she
 memory_is_out = refl
 
 -- of bad arguments in a path
-pub words_are_wrong : map fault_status (fault.Number ∷ fault.Order ∷ fault.Part ∷ fault.Time time.Shape ∷ fault.Time time.NoSuchDate ∷ fault.Time time.OutOfRange ∷ [])
-    ≡ replicate 6 status.BadRequest
+pub words_are_wrong : map fault_status (fault.Number ∷ fault.Order ∷ fault.Period ∷ fault.Part ∷ fault.Time time.Shape ∷ fault.Time time.NoSuchDate ∷ fault.Time time.OutOfRange ∷ [])
+    ≡ replicate 7 status.BadRequest
 words_are_wrong = refl
 
 -- of bad rows in a body
@@ -102,8 +102,8 @@ own_file = refl
 pub own_form : reply_to want.Form (Ok (Long (codes "start\n"))) ≡ record { status = status.Okay; media = media.Csv; body = codes "start\n" }
 own_form = refl
 
-pub types : map media_of (want.MonthReading month.Chart ∷ want.MonthOfAll all.Standing ∷ want.MonthOfAll all.Overview ∷ want.MonthOfAll all.Incidents ∷ want.Forecast ∷ want.Reading reading.Files ∷ want.MonthReading month.Spans ∷ [])
-    ≡ media.Svg ∷ media.Csv ∷ media.Csv ∷ media.Csv ∷ media.Csv ∷ media.Text ∷ media.Text ∷ []
+pub types : map media_of (want.MonthReading month.Chart ∷ want.MonthOfAll all.Standing ∷ want.MonthOfAll all.Overview ∷ want.MonthOfAll all.Incidents ∷ want.Forecast ∷ want.Handover ∷ want.Reading reading.Files ∷ want.MonthReading month.Spans ∷ [])
+    ≡ media.Svg ∷ media.Csv ∷ media.Csv ∷ media.Csv ∷ media.Csv ∷ media.Tar ∷ media.Text ∷ media.Text ∷ []
 types = refl
 
 -- ---- the statuses of requests that were done

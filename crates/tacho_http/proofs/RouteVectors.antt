@@ -9,7 +9,7 @@ use Rattle.tacho_desk.specs.declared.want.MonthOfAll.TheVariants.{Incidents, Ove
 use Rattle.tacho_desk.specs.declared.want.MonthReading.TheVariants.{Chart, Gaps, Sheet, Spans, Why}
 use Rattle.tacho_desk.specs.declared.want.Reading.TheVariants.{Breaches, Debts, Entries, Files, Owed, Stretches}
 use Rattle.tacho_desk.specs.declared.want.Want.{Want}
-use Rattle.tacho_desk.specs.declared.want.Want.TheVariants.{Ahead, Base, Drivers, Enter, File, Forecast, Form, Import, Key, MonthOfAll, MonthReading, Name, Reading, Register, Version, Withdraw}
+use Rattle.tacho_desk.specs.declared.want.Want.TheVariants.{Ahead, Base, Drivers, Enter, File, Forecast, Form, Handover, Import, Key, MonthOfAll, MonthReading, Name, Reading, Register, Version, Withdraw}
 use Rattle.tacho_message.specs.declared.method.Method.TheVariants.{Get, Post}
 use Rattle.tacho_http.specs.Routes.{Named, named_in, routes, with_offers}
 use Rattle.tacho_http.proofs.RouteLemmas.{by_bytes, by_param, goes_on, of_place}
@@ -86,6 +86,7 @@ driver_gets =
     ∷ names_one (codes "/me/why/2024-03") Driver (MonthReading Why) (codes "024-03") (codes "2024-03")
     ∷ names_one (codes "/me/chart/2024-03") Driver (MonthReading Chart) [] (codes "2024-03")
     ∷ names_two (codes "/me/ahead/2024-03-04/12:00") Driver Ahead [] (codes "2024-03-04") (codes "12:00")
+    ∷ names_two (codes "/me/handover/2024-03-01/2024-04-01") Driver Handover (codes "ver") (codes "2024-03-01") (codes "2024-04-01")
     ∷ names (codes "/me/version") Driver Version (codes "on")
     ∷ nothing (codes "/me/cards/") ∷ nothing (codes "/me/owed/1") ∷ nothing (codes "/me/ahead/2024-03-04") ∷ []
 
@@ -111,14 +112,8 @@ pub post_names : map (λ v. (v.0, named_in (routes Post) v.0)) by_post ≡ by_po
 unfolding matchit_on_literals routes with_offers
 post_names = refl
 
--- ---- the office's forecast: that no row goes on with a digit is computed without the rest of the path, since a walk without rows doubles
--- its work with each byte
-
-abbrev forecast_path : List ℕ
-forecast_path = codes "/drivers/17/ahead/2024-03-04/12:00"
-
-abbrev forecast : Place
-forecast = record { asker = Office; want = Ahead; ending = Words }
+-- ---- the office's forecast and handover: that no row goes on with a digit is computed without the rest of the path, since a walk without
+-- rows doubles its work with each byte
 
 -- the rows after `/drivers/`
 abbrev of_drivers : RowsOf Place
@@ -127,6 +122,12 @@ of_drivers = goes_on (codes "/drivers/") (rename (λ route. route.value) (routes
 no_digit : step 49 of_drivers ≡ []
 unfolding matchit_on_literals routes with_offers
 no_digit = refl
+
+abbrev forecast_path : List ℕ
+forecast_path = codes "/drivers/17/ahead/2024-03-04/12:00"
+
+abbrev forecast : Place
+forecast = record { asker = Office; want = Ahead; ending = Words }
 
 after_number : after_param (step param_token of_drivers) (codes "17/ahead/2024-03-04/12:00") ≡ Some forecast
 unfolding matchit_on_literals routes with_offers
@@ -140,3 +141,22 @@ pub forecast_named : (forecast_path, named_in (routes Get) forecast_path)
 forecast_named =
     ap (λ named. (forecast_path, named)) (of_place forecast_path forecast (first (routes Get) forecast_path)
     (sym (first-rename (λ route. route.value) (routes Get) forecast_path) ∙ forecast_found))
+
+abbrev handover_path : List ℕ
+handover_path = codes "/drivers/17/handover/2024-03-01/2024-04-01"
+
+abbrev handover : Place
+handover = record { asker = Office; want = Handover; ending = Words }
+
+handover_after_number : after_param (step param_token of_drivers) (codes "17/handover/2024-03-01/2024-04-01") ≡ Some handover
+unfolding matchit_on_literals routes with_offers
+handover_after_number = refl
+
+handover_found : first (rename (λ route. route.value) (routes Get)) handover_path ≡ Some handover
+handover_found = by_bytes (codes "/drivers/") _ _ handover (by_param of_drivers 49 _ handover no_digit handover_after_number)
+
+pub handover_named : (handover_path, named_in (routes Get) handover_path)
+    ≡ names_two handover_path Office Handover (codes "17") (codes "2024-03-01") (codes "2024-04-01")
+handover_named =
+    ap (λ named. (handover_path, named)) (of_place handover_path handover (first (routes Get) handover_path)
+    (sym (first-rename (λ route. route.value) (routes Get) handover_path) ∙ handover_found))

@@ -68,6 +68,7 @@ abbrev pub fault_status : Fault → Status
 fault_status (fault.Time f) = status.BadRequest
 fault_status fault.Number = status.BadRequest
 fault_status fault.Order = status.BadRequest
+fault_status fault.Period = status.BadRequest
 fault_status fault.Part = status.BadRequest
 fault_status fault.TooLarge = status.PayloadTooLarge
 fault_status (fault.Card f) = status.UnprocessableEntity
@@ -87,6 +88,7 @@ fault_reply f = line_reply (fault_status f) f
 -- the type of what a task answers
 abbrev pub media_of : Want → MediaType
 media_of want.File = media.Octets
+media_of want.Handover = media.Tar
 media_of want.Form = media.Csv
 media_of (want.MonthReading month.Chart) = media.Svg
 media_of (want.MonthOfAll reading) = media.Csv

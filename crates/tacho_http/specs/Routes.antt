@@ -10,7 +10,7 @@ use Rattle.tacho_desk.specs.declared.want.MonthOfAll.TheVariants.{Incidents, Ove
 use Rattle.tacho_desk.specs.declared.want.MonthReading.TheVariants.{Chart, Gaps, Sheet, Spans, Why}
 use Rattle.tacho_desk.specs.declared.want.Reading.TheVariants.{Breaches, Debts, Entries, Files, Owed, Stretches}
 use Rattle.tacho_desk.specs.declared.want.Want.{Want}
-use Rattle.tacho_desk.specs.declared.want.Want.TheVariants.{Ahead, Base, Drivers, Enter, File, Forecast, Form, Import, Key, MonthOfAll, MonthReading, Name, Reading, Register, Version, Withdraw}
+use Rattle.tacho_desk.specs.declared.want.Want.TheVariants.{Ahead, Base, Drivers, Enter, File, Forecast, Form, Handover, Import, Key, MonthOfAll, MonthReading, Name, Reading, Register, Version, Withdraw}
 use Rattle.tacho_desk.specs.Words.{Wish, wish_in}
 use Rattle.tacho_message.specs.declared.method.Method.{Method}
 use Rattle.tacho_message.specs.declared.method.Method.TheVariants as method
@@ -65,6 +65,7 @@ office_table =
     ∷ table_row (codes "/drivers/{driver}/why/{word}") Office (Some (MonthReading Why)) None
     ∷ table_row (codes "/drivers/{driver}/chart/{word}") Office (Some (MonthReading Chart)) None
     ∷ table_row (codes "/drivers/{driver}/ahead/{word}/{next}") Office (Some Ahead) None
+    ∷ table_row (codes "/drivers/{driver}/handover/{word}/{next}") Office (Some Handover) None
     ∷ table_row (codes "/overview/{word}") Office (Some (MonthOfAll Overview)) None
     ∷ table_row (codes "/incidents/{word}") Office (Some (MonthOfAll Incidents)) None
     ∷ table_row (codes "/standing/{word}") Office (Some (MonthOfAll Standing)) None
@@ -86,6 +87,7 @@ driver_table =
     ∷ table_row (codes "/me/why/{word}") Driver (Some (MonthReading Why)) None
     ∷ table_row (codes "/me/chart/{word}") Driver (Some (MonthReading Chart)) None
     ∷ table_row (codes "/me/ahead/{word}/{next}") Driver (Some Ahead) None
+    ∷ table_row (codes "/me/handover/{word}/{next}") Driver (Some Handover) None
     ∷ table_row (codes "/me/version") Driver (Some Version) None
     ∷ table_row (codes "/me/driver") Driver (Some Drivers) None
     ∷ []

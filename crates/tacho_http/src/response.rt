@@ -86,7 +86,8 @@ fn status_of(fault: &Fault) -> Status
     ensures { result ≡ fault_status fault.now }
 {
     match fault {
-        Fault::Time(_) | Fault::Number | Fault::Order | Fault::Part => Status::BadRequest,
+        Fault::Time(_) | Fault::Number | Fault::Order | Fault::Period | Fault::Part =>
+            Status::BadRequest,
         Fault::TooLarge => Status::PayloadTooLarge,
         Fault::Store(fault) => status_of_store(fault),
         Fault::Card(_) | Fault::Sheet(_) => Status::UnprocessableEntity,
@@ -115,6 +116,7 @@ fn media_of(want: Want) -> MediaType
 {
     match want {
         Want::File => MediaType::Octets,
+        Want::Handover => MediaType::Tar,
         Want::MonthReading(MonthReading::Chart) => MediaType::Svg,
         Want::Form | Want::MonthOfAll(_) | Want::Forecast => MediaType::Csv,
         _ => MediaType::Text,
