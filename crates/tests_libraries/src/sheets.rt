@@ -843,6 +843,7 @@ fn faults_have_lines(rt: HostRuntime) {
     let others = [
         (Fault::Number, "N1 bad number\n"),
         (Fault::Order, "N2 wrong order\n"),
+        (Fault::Period, "Z4 period\n"),
         (Fault::Part, "P1 bad part\n"),
         (Fault::TooLarge, "X1 too large\n"),
         (Fault::Device, "X2 device failed\n"),

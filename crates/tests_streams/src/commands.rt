@@ -235,7 +235,7 @@ fn writers_fail_at_each_call(rt: HostRuntime) -> Result<(), Fail> {
 }
 
 /// Arguments, and the job that they name.
-static JOBS: [(&[&str], Job<'static>); 38] = [
+static JOBS: [(&[&str], Job<'static>); 39] = [
     (&["tacho", "dump"], Job::Dump),
     (&["tacho", "holder"], Job::Holder),
     (&["tacho", "card", "first"], Job::Card { part: "first" }),
@@ -522,6 +522,25 @@ static JOBS: [(&[&str], Job<'static>); 38] = [
         }),
     ),
     (
+        &[
+            "tacho",
+            "handover",
+            "a.db",
+            "17",
+            "2024-03-01",
+            "2024-04-01",
+        ],
+        Job::AtDesk(DeskJob {
+            archive: "a.db",
+            wish: Wish {
+                want: Want::Handover,
+                driver: b"17",
+                word: b"2024-03-01",
+                next: b"2024-04-01",
+            },
+        }),
+    ),
+    (
         &["tacho", "ahead", "a.db", "17", "2024-03-07", "12:00"],
         Job::AtDesk(DeskJob {
             archive: "a.db",
@@ -707,6 +726,7 @@ Commands:
   entries    Prints a driver's entries, also those withdrawn
   file       Prints a card file as it was imported
   files      Prints a driver's card files, one per line: number, part, length in bytes, first minute, past, and SHA-256
+  handover   Prints a tar file for an inspection: a driver's card files that cover the days from FROM to before PAST, their entries, and a list of contents
   drivers    Prints the drivers, or one of them, one per line: number, holder, base, how many card files and entries, and name
   stretches  Prints a driver's breaches by all examinations, and what isn't examined
   debts      Prints the rest that a driver owes or has paid, by all examinations
@@ -749,6 +769,18 @@ Arguments:
   DRIVER    The driver's number, 1 to 999999
   DATE      A day, as 2024-03-07
   TIME      The time of that day in UTC, as 12:00
+";
+
+const HELP_OF_HANDOVER: &str = "\
+Prints a tar file for an inspection: a driver's card files that cover the days from FROM to before PAST, their entries, and a list of contents
+
+Usage: tacho handover ARCHIVE DRIVER FROM PAST
+
+Arguments:
+  ARCHIVE   The path of the archive
+  DRIVER    The driver's number, 1 to 999999
+  FROM      The first day of a period, as 2024-03-01
+  PAST      The day after its last, at most 366 days later
 ";
 
 const HELP_OF_DRIVERS: &str = "\
@@ -863,6 +895,7 @@ fn help_lists_commands_and_arguments(rt: HostRuntime) -> Result<(), Fail> {
     assert_same(&rt, help_of(alloc, "import")?.as_str(), HELP_OF_IMPORT);
     assert_same(&rt, help_of(alloc, "drivers")?.as_str(), HELP_OF_DRIVERS);
     assert_same(&rt, help_of(alloc, "ahead")?.as_str(), HELP_OF_AHEAD);
+    assert_same(&rt, help_of(alloc, "handover")?.as_str(), HELP_OF_HANDOVER);
     Ok(())
 }
 

@@ -126,7 +126,7 @@ pub(crate) fn archive_after(alloc: Global, count: usize) -> Result<Shelf, Fail> 
 }
 
 /// Jobs that have no input.
-static WITHOUT_INPUT: [Job<'static>; 17] = [
+static WITHOUT_INPUT: [Job<'static>; 18] = [
     Job::AtDesk(DeskJob {
         archive: "a.db",
         wish: Wish {
@@ -197,6 +197,15 @@ static WITHOUT_INPUT: [Job<'static>; 17] = [
             driver: b"17",
             word: b"1",
             next: b"",
+        },
+    }),
+    Job::AtDesk(DeskJob {
+        archive: "a.db",
+        wish: Wish {
+            want: Want::Handover,
+            driver: b"17",
+            word: b"2024-03-01",
+            next: b"2024-04-01",
         },
     }),
     Job::AtDesk(DeskJob {

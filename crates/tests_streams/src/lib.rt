@@ -12,6 +12,8 @@ mod faulty;
 #[cfg(test)]
 mod files;
 #[cfg(test)]
+mod handovers;
+#[cfg(test)]
 mod heads;
 #[cfg(test)]
 mod readings;

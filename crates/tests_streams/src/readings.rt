@@ -305,7 +305,7 @@ fn job_of(want: Want, driver: &'static str, word: &'static str) -> Job<'static> 
 }
 
 /// An archive with the two drivers and the hours.
-fn archive_of_two(alloc: Global) -> Result<Shelf, Fail> {
+pub(crate) fn archive_of_two(alloc: Global) -> Result<Shelf, Fail> {
     let mut shelf = Shelf::new(alloc);
     for driver in DRIVERS {
         answer(alloc, &mut shelf, job_of(Want::Register, "", ""), driver)?;
