@@ -178,6 +178,8 @@ ROWS = {
     ],
     **{name: office_rows.ROWS[name] for name in ["names", "ranges of entries", "ranges that are none", "a range beside a file"]},
     **{name: office_rows.ROWS[name] for name in ["a form to a day", "a form to a day by the base", "a form to the last day"]},
+    **{name: office_rows.ROWS[name] for name in ["a handover", "files that cover a period", "a file for one minute", "a file by its parts"]},
+    **{name: office_rows.ROWS[name] for name in ["entries of a period", "files and entries of a period", "a holder of other signs"]},
 }
 
 # In an archive that has Anna and 3,000 entries of a day each, without a gap, from 3 January 2000 on: work and rest in turn.

@@ -126,6 +126,11 @@ class Weeks:
         later = 7 * self.chance.choice([-1, 0, 0, 0, 0, 1, 2, self.count])
         return max(FIRST_DAY, min(self.first + later, LAST_DAY - 2 - (LAST_DAY - 2 - 4) % 7))
 
+    def period(self):
+        """A period of some days that begins and ends before, within or after these weeks."""
+        first, past = sorted(self.chance.sample(range(max(self.first - 3, FIRST_DAY), min(self.past + 3, LAST_DAY + 1)), 2))
+        return [date_text(first), date_text(past)]
+
     def months(self):
         """The months of its first and its last day, and the next."""
         days = {min(day, LAST_DAY) for day in (self.first, self.past - 1, self.past + 31)}
@@ -148,12 +153,13 @@ def commands_of(seed):
         commands.append((list(command[0]), command[1]))
         return office.answer(*commands[-1])[0]
 
-    months, pasts, cuts = set(), [], {}
+    months, pasts, cuts, periods = set(), [], {}, {}
     for place, number in enumerate(NUMBERS):
         weeks = Weeks(chance, LAST_DAY + 1)
         months.update(weeks.months())
         pasts.append(min(weeks.past, LAST_DAY))
         cuts[str(number)] = date_text(max(FIRST_DAY, min(weeks.first + chance.randrange(-8, 7 * weeks.count + 8), LAST_DAY)))
+        periods[str(number)] = weeks.period()
         holder = random_cards.HOLDERS[place]
         add(["register"], driver_csv(number, holder, KEYS[place], weeks.base(), NAMES[place]))
         if chance.random() < 0.95:
@@ -173,6 +179,7 @@ def commands_of(seed):
             add(["ahead", number, *minute], b"")
             forms.append((number, add(["form", number], b"")))
             add(["form", number, cuts[number]], b"")
+            add(["handover", number, *periods[number]], b"")
         for month in sorted(months):
             for number in map(str, NUMBERS):
                 add(["chart", number, month], b"")
@@ -218,7 +225,7 @@ def told_in_turn(commands, answers):
     told = [{}]
     for (words, _), (text, _) in zip(commands, answers, strict=True):
         if words[0] != "enter":
-            told[-1][" ".join(words)] = text.decode()
+            told[-1][" ".join(words)] = text.decode(errors="backslashreplace")  # a tar file is no text
         elif told[-1]:
             told.append({})
     return told

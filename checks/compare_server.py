@@ -29,14 +29,14 @@ from lib.advice import without_any
 from lib.office import WITH_ANNA, Desk
 from lib.programs import version_lines
 from lib.office_rows import (
-    ANNA, BERT, BREACH, CARD, CUT_GAP, DAY, DAY_OFF, DAY_OFF_LINE, EXAMINED, FIRST_GAP, FORECAST_HEAD, FREE_DAYS, FREE_LINE, GAPS, HOLDER,
-    HOURS_HEAD, INCIDENT_HEAD, LARGEST_DAY, LARGEST_HOURS, LIMIT, LONG_NOTE, MARCH, NO_AUTHOR, NO_NAMES, OVERVIEW_HEAD, SATURDAY,
-    SECOND_GAP, SIGNED_HEAD, SPANS, STANDING_BERT, STANDING_HEAD, THREE_DAYS, UNSEEN, anna, rests,
+    ANNA, BERT, BREACH, CARD, CUT_GAP, DAY, DAY_NAME, DAY_OFF, DAY_OFF_LINE, EXAMINED, FIRST_GAP, FORECAST_HEAD, FREE_DAYS, FREE_LINE, GAPS,
+    HOLDER, HOURS_HEAD, INCIDENT_HEAD, LARGEST_DAY, LARGEST_HOURS, LIMIT, LONG_NOTE, MARCH, NO_AUTHOR, NO_NAMES, OVERVIEW_HEAD, SATURDAY,
+    SECOND_GAP, SIGNED_HEAD, SPANS, STANDING_BERT, STANDING_HEAD, THREE_DAYS, UNSEEN, anna, handed, rests, with_counts,
 )
 from lib.server import (
-    ADDED, BAD, BAD_KEY, BAD_NUMBER, BREACHES, COUNTED, CSV, DRIVER, ENDED, FORBIDDEN, HOST, LARGE_HEAD, NO_DATE, NO_LENGTH, NO_PORT,
-    NOT_FOUND, OFFICE, OTHER_METHOD, OWN, REPEATED, STORED, SVG, TEXT, TOO_LARGE, Serving, asked_of, asking, free_port, line, of_asked,
-    one_of, posting, sent, server_after, told,
+    ADDED, BAD, BAD_KEY, BAD_NUMBER, BREACHES, COUNTED, CSV, DRIVER, ENDED, FORBIDDEN, HOST, LARGE_HEAD, NO_DATE, NO_LENGTH, NO_PERIOD,
+    NO_PORT, NOT_FOUND, OFFICE, OTHER_METHOD, OWN, REPEATED, STORED, SVG, TAR, TEXT, TOO_LARGE, Serving, asked_of, asking, free_port, line,
+    of_asked, one_of, posting, sent, server_after, told,
 )
 from slow import slow_server
 
@@ -108,12 +108,18 @@ FORECAST = (
 )
 MINUTE = "2024-03-05/12:00"
 DATE = "2024-03-06"
+PERIOD = "2024-03-04/2024-03-12"
+DAYS_OF_PERIOD = PERIOD.replace("/", " ")
+FREE_KEPT = FREE_LINE.replace("withdrawn", "kept")
+NOT_HELD = ["2024-03-04 17:00 2024-03-05 00:00", "2024-03-05 08:00 2024-03-09 00:00", "2024-03-11 00:00 2024-03-12 00:00"]
+BERT_LINE = f"18 {HOLDER[:-1]}4 2024-02-05 0 0 Bert\n"
 OF_ANNA = {
     "stretches": f"FROM 2024-03-04\n{BREACH}{EXAMINED}{UNSEEN}",
     "debts": f"FROM 2024-03-04\n{EXAMINED}{UNSEEN}",
     "files": f"1 both 67 2024-03-04 00:00 2024-03-05 08:00 {hashlib.sha256(DAY).hexdigest()}\n",
     "form": SIGNED_HEAD + FIRST_GAP + SECOND_GAP,
     f"form/{DATE}": SIGNED_HEAD + FIRST_GAP + CUT_GAP,
+    f"handover/{PERIOD}": handed(DAYS_OF_PERIOD, with_counts(1, 1), [(DAY_NAME, DAY)], FREE_KEPT, NOT_HELD),
     f"why/{MONTH}": BREACH + SHOWN,
     f"ahead/{MINUTE}": f"FROM 2024-03-04\n{EXAMINED}{UNSEEN}",
     f"chart/{MONTH}": chart_of("17"),
@@ -125,6 +131,7 @@ OF_BERT = {
     "files": "",
     "form": SIGNED_HEAD,
     f"form/{DATE}": SIGNED_HEAD,
+    f"handover/{PERIOD}": handed(DAYS_OF_PERIOD, BERT_LINE, [], gaps=["2024-03-04 00:00 2024-03-12 00:00"]),
     f"why/{MONTH}": "",
     f"ahead/{MINUTE}": FORECAST,
     f"chart/{MONTH}": chart_of("18"),
@@ -134,7 +141,7 @@ WITHOUT_NUMBER = [f"/me/{end}" for end in OF_ANNA]
 
 # What can be read of all drivers: each path, the text where there is no driver, Anna's line, and Bert's.
 OF_ALL = {
-    "/drivers": ("", f"17 {HOLDER} 2024-03-04 1 1 Anna Berg\n", f"18 {HOLDER[:-1]}4 2024-02-05 0 0 Bert\n"),
+    "/drivers": ("", with_counts(1, 1), BERT_LINE),
     f"/forecast/{MINUTE}": (
         FORECAST_HEAD,
         f"17,Anna Berg,2024-03-04,2024-03-11 00:00{14 * ','}\n",
@@ -157,7 +164,8 @@ FOR_OFFICE = [*OF_ALL, *WITH_NUMBER]
 
 # The types of what isn't TEXT, by a part of its path.
 TYPES = {
-    "/files/": STORED, "/chart/": SVG, "/form": CSV, "/forecast/": CSV, "/standing/": CSV, "/overview/": CSV, "/incidents/": CSV,
+    "/files/": STORED, "/handover/": TAR, "/chart/": SVG, "/form": CSV, "/forecast/": CSV, "/standing/": CSV, "/overview/": CSV,
+    "/incidents/": CSV,
 }
 
 
@@ -182,6 +190,16 @@ def bad_months(path, key):
 BAD_DATES = {
     MONTH: "Z1 not of the shape", "2024-3-6": "Z1 not of the shape", "2024-03-06?all": "Z1 not of the shape", "17": "Z1 not of the shape",
     "2024-02-30": "Z2 no such date", "2100-02-30": "Z2 no such date", "2000-01-02": "Z3 out of range", "2100-01-01": "Z3 out of range",
+}
+
+# What follows `handover` in a path that isn't one, and by the end of a path the fault of a period.
+NO_PERIODS = ["", "/", "/2024-03-04", "/2024-03-04/", "//2024-03-05", f"/{PERIOD}/", f"/{PERIOD}/17", "/2024/03/04", "/2024-03"]
+BAD_PERIODS = {
+    "2024-3-4/2024-02-30": "Z1 not of the shape", "2024-03/2024-04": "Z1 not of the shape", f"{PERIOD}?all": "Z1 not of the shape",
+    "2024-03-04/12:00": "Z1 not of the shape", "2024-04-01/2024-3-1": "Z1 not of the shape", "2024-02-30/2024-3-4": "Z2 no such date",
+    "2024-03-04/2024-02-30": "Z2 no such date", "2000-01-02/2024-02-30": "Z3 out of range", "2024-03-04/2100-01-01": "Z3 out of range",
+    "2024-03-04/2000-01-02": "Z3 out of range", "2024-03-04/2024-03-04": "Z4 period", "2024-03-05/2024-03-04": "Z4 period",
+    "2024-01-01/2025-01-02": "Z4 period", "2000-01-03/2099-12-31": "Z4 period",
 }
 
 # A forecast that goes past 2099.
@@ -316,12 +334,15 @@ ROWS = {
     ],
     "paths near what can be read": [
         *[row(f"GET {path}/", OFFICE, NOT_FOUND) for path in [*FOR_OFFICE, *WITHOUT_NUMBER]],
-        *[row(f"GET {path}?all", OFFICE, NOT_FOUND) for path in FOR_OFFICE if not path.endswith((MONTH, MINUTE, DATE))],
+        *[row(f"GET {path}?all", OFFICE, NOT_FOUND) for path in FOR_OFFICE if not path.endswith((MONTH, MINUTE, DATE, PERIOD))],
         *[row(f"GET {path.removesuffix(MONTH)}", OFFICE, NOT_FOUND) for path in FOR_OFFICE if path.endswith(MONTH)],
         *[row(f"GET {path.removesuffix(f'/{MONTH}')}", DRIVER, NOT_FOUND)
           for path in [*FOR_OFFICE, *WITHOUT_NUMBER] if path.endswith(MONTH)],
         *[row(f"GET {path}{end}", key, NOT_FOUND)
           for path, key in (("/drivers/17/ahead", OFFICE), ("/me/ahead", DRIVER), ("/forecast", OFFICE)) for end in NO_MINUTES],
+        *[row(f"GET {path}{end}", key, NOT_FOUND)
+          for path, key in (("/drivers/17/handover", OFFICE), ("/me/handover", DRIVER)) for end in NO_PERIODS],
+        row(f"GET /handover/{PERIOD}", OFFICE, NOT_FOUND),
         *[row(f"GET {path.replace('17', '')}", OFFICE, NOT_FOUND) for path in WITH_NUMBER],
         *[row(f"GET /me{path}", DRIVER, NOT_FOUND) for path in OF_ALL],
         *[row(f"GET /drivers/17{path}", OFFICE, NOT_FOUND) for path in OF_ALL],
@@ -341,6 +362,12 @@ ROWS = {
         row("GET /drivers/0/form/2024-02-30", OFFICE, BAD_NUMBER),
         row("GET /drivers/18/form/2024-02-30", OFFICE, NO_DATE),
         row("GET /drivers/18/form/2024-02-30", DRIVER, FORBIDDEN),
+        *[row(f"GET /{who}/handover/{text}", key, line("400 Bad Request", len(fault) + 1, fault))
+          for who, key in (("drivers/17", OFFICE), ("me", DRIVER)) for text, fault in BAD_PERIODS.items()],
+        row("GET /drivers/0/handover/2024-02-30/2024-3-1", OFFICE, BAD_NUMBER),
+        row("GET /drivers/18/handover/2024-02-30/2024-03-01", OFFICE, NO_DATE),
+        row("GET /drivers/18/handover/2024-03-05/2024-03-04", OFFICE, NO_PERIOD),
+        row("GET /drivers/18/handover/2024-03-05/2024-03-04", DRIVER, FORBIDDEN),
         *bad_minutes("/drivers/17/ahead", OFFICE),
         *bad_minutes("/me/ahead", DRIVER),
         *bad_minutes("/forecast", OFFICE),

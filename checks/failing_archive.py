@@ -62,6 +62,7 @@ CASES = {
     "entries": ([*WITH_HOURS, SIGNED], (["entries", "17"], b"")),
     "a file": (WITH_DAY, (["file", "17", "1"], b"")),
     "the list of files": (WITH_DAY, (["files", "17"], b"")),
+    "a handover": ([*WITH_HOURS, SIGNED], (["handover", "17", "2024-03-01", "2024-04-01"], b"")),
     "drivers": ([*WITH_HOURS, OTHER], (["drivers"], b"")),
     "stretches": ([*WITH_HOURS, GAP], (["stretches", "17"], b"")),
     "evidence": ([*WITH_HOURS, GAP], (["why", "17", "2024-03"], b"")),

@@ -52,6 +52,7 @@ CASES = {
     "what is owed": (WITH_HOURS, (["owed", "17"], b"")),
     "entries": ([*WITH_HOURS, SIGNED], (["entries", "17"], b"")),
     "a file": (WITH_HOURS, (["file", "17", "1"], b"")),
+    "a handover": ([*WITH_HOURS, SIGNED], (["handover", "17", "2024-03-01", "2024-04-01"], b"")),
     "drivers": ([*WITH_HOURS, CARL], (["drivers"], b"")),
     "a sound archive": ([*WITH_GAP, SIGNED, CARL], (["check"], b"")),
     "an unsound archive": (UNSOUND, (["check"], b"")),
@@ -65,6 +66,7 @@ CASES = {
     "a form": (WITH_GAP, (["form", "17"], b"")),
     "a form to a day": (WITH_GAP, (["form", "17", "2024-03-08"], b"")),
     "a bad month": (WITH_HOURS, (["sheet", "17", "2024-13"], b"")),
+    "a bad period": (WITH_HOURS, (["handover", "17", "2024-03-01", "2024-03-01"], b"")),
 }
 
 # Those of a disk that stops, and for how many calls it does so; and the making of an archive.

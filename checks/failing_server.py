@@ -42,6 +42,7 @@ CASES = {
     "entries": Case([*WITH_HOURS, SIGNED], asking("GET /me/entries", DRIVER)),
     "a file": Case(WITH_HOURS, asking("GET /me/files/1", DRIVER)),
     "all files": Case(WITH_HOURS, asking("GET /drivers/17/files", OFFICE)),
+    "a handover": Case([*WITH_HOURS, SIGNED], asking("GET /me/handover/2024-03-01/2024-04-01", DRIVER)),
     "a form to a day": Case(WITH_HOURS, asking("GET /me/form/2024-03-05", DRIVER)),
     "evidence": Case(WITH_HOURS, asking("GET /me/why/2024-03", DRIVER)),
     "a forecast": Case(WITH_HOURS, asking("GET /me/ahead/2024-03-11/12:00", DRIVER)),

@@ -52,6 +52,8 @@ KEPT = [
     (LINES, b"name PATH 17\n\xef\xbb\xbfAnna\r\n", "a name after a byte order mark, which is of it"),
     (LINES, b"withdraw PATH 18 2 1", "a range that ends before it begins, of an unknown driver"),
     (LINES, b"form PATH 17 -- 2024-03-05", "two hyphens before a date that may be left out"),
+    (LINES, b"handover PATH 17 -- 2024-03-01 2024-04-01", "two hyphens before a period"),
+    (LINES, b"handover PATH 18 2024-03-02 2024-03-01", "a period that ends before it begins, of an unknown driver"),
     (LINES, b"import PATH both\n" + bytes.fromhex(CARD + "0504000010" "00000000" "0000000d") + bytes(8), "a record of 13 bytes"),
     (REQUESTS, b"\n\r\nGET /drivers/17/breaches HTTP/1.0\nX-KEY:office-key-1\n\r\n\0GET", "ends of lines of both forms"),
 ]
@@ -60,7 +62,7 @@ KEPT = [
 ANSWERS = {
     CARDS: "done C1 C2 C3 C4 C5 C6 C7 C8 C9 C10 C11 C12 C13 C14 X1",
     CSV: "done E1 E2 E3 E4 E5 E6 E7 E9 E10 S1 S2 S3 S4 S6 S9",
-    LINES: "done usage N1 N2 P1 Z1 Z2 Z3 E1 E2 E9 C1 C9 S1 S2 S3 S4 S6 S7 S8 S9 S10 S12 X1",
+    LINES: "done usage N1 N2 P1 Z1 Z2 Z3 Z4 E1 E2 E9 C1 C9 S1 S2 S3 S4 S6 S7 S8 S9 S10 S12 X1",
     REQUESTS: "200 201 400 403 404 405 409 411 413 422 431",
 }
 

@@ -41,7 +41,7 @@ MIGRATED = (b"migrated\n", 0, b"")
 
 # What is refused before its arguments and its input are looked at.
 BAD_COMMANDS = ["import whole", "enter 017", "withdraw 17 0", "withdraw 17 2 1", "base 17 2024-02-30", "name 017", "form 17 2024-02-30"]
-BAD_COMMANDS += ["sheet 17 2024-13", "breaches 18", "file 17 2"]
+BAD_COMMANDS += ["sheet 17 2024-13", "breaches 18", "file 17 2", "handover 17 2024-03-01 2024-03-01"]
 
 # The readings of all drivers.
 OF_ALL = [["drivers"], ["forecast", "2024-03-05", "12:00"], ["standing", "2024-03"]]
@@ -204,6 +204,7 @@ def readings_of(driver, months):
     """The readings of a driver: the arguments of each."""
     words = [f"{word} {{}} {month}" for word in ["spans", "gaps", "sheet", "chart", "why"] for month in months]
     words += [f"ahead {{}} {months[-1]}-05 12:00", f"form {{}} {months[-1]}-05"]
+    words += [f"handover {{}} {months[-1]}-04 {months[-1]}-12"]
     words += ["breaches {}", "owed {}", "entries {}", "files {}", "file {} 1", "file {} 2", "withdraw {} 1", "withdraw {} 1 2"]
     return [text.format(driver).split(" ") for text in words]
 

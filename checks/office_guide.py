@@ -21,7 +21,7 @@ import tempfile
 import time
 
 from inputs.random_commands import hours_csv
-from lib import counting, files, old_archive
+from lib import counting, files, old_archive, tars
 from lib.archive import tables
 from lib.files import EXAMPLES, TOP, read
 from lib.office_rows import ANNA, CREW_DAY, DAY, HOLDER, OTHER_DAY
@@ -562,22 +562,19 @@ def inspection(office):
     """The same, with a card file of June beside those of March."""
     number = len(office.told("files", "17").splitlines()) + 1
     yield "a card file of June", office.told("import", "both", given=later(DAY, 91)), f"added driver 17 number {number}\n"
-    listed = office.told("files", "17")
-    yield office.typed("tacho files archive.db 17 > files.txt", "")
-    yield "the list of card files", office.read("files.txt"), listed
-    for name, command in [("entries.txt", "entries"), ("stretches.txt", "stretches")]:
-        yield name, office.read(name), office.told(command, "17")
-    yield "chart.svg", office.read("chart.svg"), office.told("chart", "17", "2024-03")
-    lines = [line.split(" ") for line in listed.splitlines()]
-    wanted = {f"17-{number}.ddd": digest for number, _, _, first, _, past, time, digest in lines
-              if first < "2024-04" and f"{past} {time}" > "2024-03-01 00:00"}
-    found = {}
-    for name in sorted(os.listdir(office.folder)):
-        if re.fullmatch(r"17-[0-9]+\.ddd", name):
-            with open(office.path(name), "rb") as file:
-                found[name] = hashlib.sha256(file.read()).hexdigest()
-    yield "the card files of March", found, wanted
-    yield "whether some card files are of March and others aren't", 0 < len(wanted) < len(lines), True
+    yield office.typed("tacho handover archive.db 17", "")
+    members = tars.members_of(read(office.path("17.tar")))
+    lines = [line.split(" ") for line in office.told("files", "17").splitlines()]
+    march = {digest for _, _, _, first, _, past, time, digest in lines if first < "2024-04" and f"{past} {time}" > "2024-03-01 00:00"}
+    digests = {hashlib.sha256(content).hexdigest() for _, content in members[:-2]}
+    yield "the card files are of March", digests - march, set()
+    yield "whether some card files are of March and others aren't", 0 < len(digests) < len(lines), True
+    entries = [line for line in office.told("entries", "17").splitlines(keepends=True) if " 2024-03-" in line]
+    yield "the texts", [name for name, _ in members[-2:]], ["entries.txt", "contents.txt"]
+    yield "the entries", members[-2][1].decode(), "".join(entries)
+    named = [line.split(" ") for line in members[-1][1].decode().splitlines() if line.startswith("FILE ")]
+    yield "the digests in contents.txt", named, [
+        ["FILE", name, str(len(content)), hashlib.sha256(content).hexdigest()] for name, content in members[:-1]]
 
 
 # What the page and docs/RULES.md say of a rest that is too short by ten minutes, and of leave: what was done from the same Monday. The
@@ -705,6 +702,16 @@ def asked_month(office):
         yield f"{name} of the service", office.read(name), office.told(*words.split())
 
 
+def asked_handovers(office):
+    """What is handed over of each driver by a request is what the command writes."""
+    yield office.typed("curl -s -H @office.head http://127.0.0.1:8017/drivers |", "")
+    for line in office.told("drivers").splitlines():
+        driver = line.split(" ")[0]
+        command = [office.program, "handover", office.path("archive.db"), driver, "2024-03-01", "2024-04-01"]
+        written = subprocess.run(command, capture_output=True).stdout
+        yield f"{driver}.tar of the service", read(office.path(f"{driver}.tar")) == written, True
+
+
 def asked_key(office):
     """Another key for a driver by a request, and then the one that they had."""
     yield office.typed("(umask 077; tr -dc a-zA-Z0-9 < /dev/urandom | head -c 32 > 17.key)", "key 17\n")
@@ -742,6 +749,7 @@ def services(office):
     yield "a command while it serves", office.type("/usr/local/bin/tacho entries /var/lib/tacho/archive.db 17"), ("S12 store failed\n", 3)
     yield office.typed("(umask 077; echo \"x-key:", "repeated driver 17\n")
     yield from asked_month(office)
+    yield from asked_handovers(office)
     yield from asked_key(office)
     yield from asked_name(office)
     names = list(DOWNLOADS)[:8]

@@ -90,7 +90,7 @@ def statuses(program: str) -> list[int]:
 
 def in_braces(path: str) -> str:
     """The path of the slow server with the names of the table for what is in braces: the driver, the other argument, and that after it."""
-    path = re.sub(r"\{(time|last)\}", "{next}", path.replace("/drivers/{n}", "/drivers/{driver}"))
+    path = re.sub(r"\{(time|last|past)\}", "{next}", path.replace("/drivers/{n}", "/drivers/{driver}"))
     return re.sub(r"\{(?!driver\}|next\})\w+\}", "{word}", path)
 
 
@@ -152,7 +152,7 @@ def requests_in(item: str) -> set[tuple[str, str]]:
 
 def place_of(path: str) -> str:
     """A path of examples with names of its variable parts."""
-    path = re.sub(r"(/\d[\d-]*)/[\d:]+$", r"\1/{next}", path.replace("/17", "/{driver}").replace("/both", "/{word}"))
+    path = re.sub(r"(/\d[\d-]*)/[\d:-]+$", r"\1/{next}", path.replace("/17", "/{driver}").replace("/both", "/{word}"))
     return re.sub(r"/\d[\d-]*(?=$|/\{next\})", "/{word}", path)
 
 

@@ -39,6 +39,7 @@ ENTRIES = asking("GET /drivers/17/entries", OFFICE)
 HELD = asking("GET /drivers/17/spans/2024-03", OFFICE)
 WHY = asking("GET /drivers/17/why/2024-03", OFFICE)
 OVERVIEW = asking("GET /overview/2024-03", OFFICE)
+HANDOVER = asking("GET /drivers/17/handover/2024-03-01/2024-04-01", OFFICE)
 REGISTER = posting("/drivers", OFFICE, BERT)
 IMPORT = posting("/cards/both", OFFICE, DAY)
 ENTER = posting("/drivers/17/entries", OFFICE, MORNING)
@@ -59,6 +60,7 @@ CASES = {
     "another base": (WITH_DAY, [REBASE, asking("GET /drivers/17/breaches", OFFICE), IMPORT]),
     "changes one after the other": (WITH_DAY, [ENTER, SIGN, WITHDRAW]),
     "evidence, and all drivers": (WITH_DAY, [SIGN, WHY, OVERVIEW]),
+    "a handover": (WITH_DAY, [SIGN, HANDOVER, HANDOVER]),
 }
 
 

@@ -86,6 +86,8 @@ AUDITOR = Order(
         ("texts that come in and go out",
          "tacho_time: Text Reading Calendar; tacho_sheet: Rows Words Entries Driver Number Value Text Reports Done Lines"
          " Stretches Months Form Chart Evidence Why Ahead Cells Standing Forecast"),
+        ("what is handed over at an inspection",
+         "tacho_handover: Handover Covering Contents Parcel; tacho_tar: Tar Reading"),
         ("the program's arguments, and what it does without an archive and at one",
          "tacho_cli: Words Asked Office Files Listen Command Dump Card Holder Version Fault"),
         ("the rest: streams, out of memory, and terms of spans and lines",

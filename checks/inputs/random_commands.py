@@ -182,6 +182,12 @@ class Commands:
         """A file that is there or not."""
         return ["file", str(self.one_of(NUMBERS, [16])), str(1 + self.chance.randrange(4))], b""
 
+    def handover(self) -> Command:
+        """What is handed over of a period near a card's days, or of days that are no period."""
+        first = self.chance.choice(self.chance.choice(self.cards).days)[0] + self.chance.choice([-2, -1, 0, 0, 0, 1])
+        past = first + self.one_of([1, 1, 2, 3, 5, 31, 366], [-1, 0, 367])
+        return ["handover", str(self.one_of(NUMBERS, [1, 16])), date_text(first), date_text(past)], b""
+
     def driver(self) -> tuple[int, list[list[Any]]]:
         """A driver's number, and what the driver holds: start, past and mark of each run of minutes."""
         number = self.one_of(NUMBERS, [1, 16])
@@ -251,7 +257,8 @@ class Commands:
     def all(self) -> list[Command]:
         """The commands: some drivers first, and then anything."""
         kinds: list[Callable[[], Any]] = [self.import_new] * 7 + [self.enter] * 7 + [self.withdraw] * 4
-        kinds += [self.import_again, self.timeline, self.entries, self.download, self.rebase, self.rekey, self.rename, self.register]
+        kinds += [self.import_again, self.timeline, self.entries, self.download, self.handover, self.handover, self.rebase]
+        kinds += [self.rekey, self.rename, self.register]
         commands = self.registrations()
         for command in commands:
             self.office.answer(*command)

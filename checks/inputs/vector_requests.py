@@ -471,7 +471,39 @@ def forms() -> Iterator[Made]:
         yield made("form", 404, f"the path '/me/{end}' isn't one", [ADD_ANNA, asking(f"GET /me/{end}", DRIVER)])
 
 
+def handovers() -> Iterator[Made]:
+    """What is handed over of a period: a tar file, by the office and by the driver. It names the version of this program."""
+    month, path = "2024-03-01/2024-04-01", "handover/2024-03-04/2024-03-06"
+    whole = [*WITH_DAY, ADD_HOURS]
+    for who, key, whose in (("/drivers/17", OFFICE, "the office"), ("/me", DRIVER, "the driver")):
+        yield made("handover", 200, f"a card file, an entry and the gaps of a month are handed over to {whose}",
+                   [*whole, asking(f"GET {who}/handover/{month}", key)])
+    yield made("handover", 200, "a period of which nothing is held is handed over",
+               [*whole, asking("GET /me/handover/2024-03-06/2024-03-09", DRIVER)])
+    for number, period, status, what in (
+        ("17", "2024-3-4/2024-02-30", 400, "a first day of another shape (Z1), before a second that isn't there"),
+        ("17", "2024-02-30/2024-3-4", 400, "a first day that isn't there (Z2), before a second of another shape"),
+        ("17", "2000-01-02/2024-02-30", 400, "a first day before those that are read (Z3), before a second that isn't there"),
+        ("17", "2024-03-04/2024-3-6", 400, "a second day of another shape (Z1)"),
+        ("17", "2024-03-04/2024-02-30", 400, "a second day that isn't there (Z2), and would be before the first"),
+        ("17", "2024-03-04/2100-01-01", 400, "a second day of 2100 (Z3), before a period that is too long"),
+        ("17", "2024-03-04/2024-03-04", 400, "a period of no day (Z4)"), ("17", "2024-01-01/2025-01-02", 400, "a period of 367 days (Z4)"),
+        ("17", "2024-03-05/2024-03-04", 400, "a period that ends before it begins (Z4)"),
+        ("017", "2024-02-30/2024-3-4", 400, "a number with a zero in front (N1), before wrong days"),
+        ("18", "2024-03-05/2024-03-04", 400, "a period that ends before it begins (Z4), before an unknown driver"),
+        ("18", "2024-01-01/2025-01-01", 404, "an unknown driver (S4), and a period of 366 days"),
+    ):
+        yield made("handover", status, f"{what}, of a handover", [ADD_ANNA, asking(f"GET /drivers/{number}/handover/{period}", OFFICE)])
+    yield made("handover", 403, f"a driver may not GET '/drivers/17/{path}'", [ADD_ANNA, asking(f"GET /drivers/17/{path}", DRIVER)])
+    yield made("handover", 403, f"the office may not GET '/me/{path}'", [ADD_ANNA, asking(f"GET /me/{path}", OFFICE)])
+    yield made("handover", 405, f"the path '/me/{path}' hasn't the method POST", [ADD_ANNA, asking(f"POST /me/{path}", DRIVER)])
+    for end in ("handover/2024-03-04", f"{path}/", f"{path}/12:00"):
+        yield made("handover", 404, f"the path '/me/{end}' isn't one", [ADD_ANNA, asking(f"GET /me/{end}", DRIVER)])
+
+
 def requests() -> list[Made]:
     """All cases of requests."""
-    makers = (heads, limits, keys, paths, bodies, arguments, refusals, done, single_bytes, forecasts, of_all_drivers, ranges, names, forms)
+    makers = (
+        heads, limits, keys, paths, bodies, arguments, refusals, done, single_bytes, forecasts, of_all_drivers, ranges, names, forms, handovers,
+    )
     return [one for maker in makers for one in maker()]

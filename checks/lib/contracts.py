@@ -27,6 +27,8 @@ ENTRIES: dict[str, tuple[str, ...] | None] = {
     "tacho_ahead": None,
     "tacho_state": None,
     "tacho_sheet": None,
+    "tacho_tar": None,
+    "tacho_handover": None,
     "tacho_desk": None,
     "tacho_store": None,
     "tacho_check": ("checking", "laws", "table", "text"),

@@ -29,6 +29,7 @@ READINGS = [
     "entries 17",
     "file 17 1",
     "files 17",
+    "handover 17 2024-03-01 2024-04-01",
     "drivers",
     "check",
     "stretches 17",

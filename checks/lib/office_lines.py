@@ -10,11 +10,12 @@ LINES = 30
 FIRST_DAY = 10_957  # 2000-01-01, the first day of a month that is read
 LAST_MINUTE = 68_374_079  # 2099-12-31 23:59
 READINGS = ["spans", "gaps", "sheet", "chart", "why", "breaches", "owed", "owed", "entries", "files", "file", "drivers", "check", "migrate"]
-READINGS += ["stretches", "stretches", "debts", "forecast", "standing", "overview", "incidents", "form", "form", "ahead"]
+READINGS += ["stretches", "stretches", "debts", "forecast", "standing", "overview", "incidents", "form", "form", "ahead", "handover"]
 BAD_DRIVERS = ["017", "0", "1000000", "", "+17", "1e3", "\u0661\u0667"]
 BAD_NUMBERS = ["0", "01", "1000001", "x", "99999999999999999999"]
 BAD_MONTHS = ["2024-13", "2024-00", "2024-3", "1999-12", "2100-01", "0000-01", "2024-03-04", "2024/03"]
 BAD_DATES = ["2024-02-30", "2023-02-29", "1999-12-31", "2100-01-01", "0000-02-29", "2024-03", "2024-3-4"]
+BAD_PASTS = ["2000-01-03", "2000-01-04", "2099-12-31", *BAD_DATES]
 BAD_TIMES = ["24:00", "12:60", "9:00", "12:0", "12.00", "1200", "12:00:00", "", "2024-03-04"]
 BAD_PARTS = ["whole", "BOTH", "", "0"]
 
@@ -31,6 +32,7 @@ BAD: dict[str, list[list[str]]] = {
     "why": [BAD_DRIVERS, BAD_MONTHS],
     "ahead": [BAD_DRIVERS, BAD_DATES, BAD_TIMES],
     "file": [BAD_DRIVERS, BAD_NUMBERS],
+    "handover": [BAD_DRIVERS, BAD_DATES, BAD_PASTS],
     "form": [BAD_DRIVERS, BAD_DATES],
     "drivers": [BAD_DRIVERS],
     "check": [],
@@ -40,6 +42,11 @@ BAD: dict[str, list[list[str]]] = {
     "overview": [BAD_MONTHS],
     "incidents": [BAD_MONTHS],
 }
+
+
+def nearest_date(day: int) -> str:
+    """The date of a day, or of the nearest one that is read."""
+    return date_text(max(slow_reader.READ_DAYS.start, min(day, slow_reader.READ_DAYS.stop - 1)))
 
 
 def from_week(columns: Columns, day: int) -> Columns:
@@ -98,8 +105,15 @@ class Lines(random_commands.Commands):
         held = [minute // 1440 for minute in driver.held()] if driver else []
         base, end = driver.base if driver else self.base // 1440, max(held, default=self.base // 1440)
         day = self.chance.choice([base, base - 7, base + 1, end, end + 1, end + 400, *[self.chance.choice(held or [end])] * 4])
-        date = date_text(max(slow_reader.READ_DAYS.start, min(day, slow_reader.READ_DAYS.stop - 1)))
-        return [self.one_of([date], BAD_DATES)] if self.chance.random() < 0.5 else []
+        return [self.one_of([nearest_date(day)], BAD_DATES)] if self.chance.random() < 0.5 else []
+
+    def period(self, driver: Driver | None) -> list[str]:
+        """Two dates: the period is within what a driver holds, at its ends or around it, or too long, or the dates are no period."""
+        held = [minute // 1440 for minute in driver.held()] if driver else []
+        known = held or [self.base // 1440]
+        first = self.chance.choice([min(known), max(known), self.chance.choice(known)]) + self.chance.choice([-2, -1, 0, 0, 0, 1])
+        past = first + self.one_of([1, 1, 2, 3, 7, 31, 366], [-1, 0, 367])
+        return [self.one_of([nearest_date(first)], BAD_DATES), self.one_of([nearest_date(past)], BAD_PASTS)]
 
     def minute_of_all(self) -> list[str]:
         """A date and a time for all drivers: near the first end of what they hold, or so late that none has a forecast, or arguments
@@ -132,6 +146,8 @@ class Lines(random_commands.Commands):
             return [word, str(number), *self.minute(driver)], b""
         if word == "form":
             return [word, str(number), *self.day(driver)], b""
+        if word == "handover":
+            return [word, str(number), *self.period(driver)], b""
         if word == "file":
             count = len(driver.downloads) if driver else 0
             return [word, str(number), str(self.one_of(range(1, count + 1) or [1], [count + 1]))], b""

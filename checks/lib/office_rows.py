@@ -1,9 +1,14 @@
 """Worked rows of the office: in an archive that has Anna, what each command prints for an input, and its status."""
+import datetime
+import hashlib
 from collections import namedtuple
 from collections.abc import Iterable, Sequence
 
+from inputs import random_cards
 from inputs.random_commands import hours_csv
 from lib import rules
+from lib.programs import name_and_version
+from lib.tars import tar_of
 from slow.slow_rules import Span
 
 HOLDER = "0d4431323334353637383930313233"
@@ -125,6 +130,38 @@ def anna(name: str) -> str:
     return f"17 {HOLDER} 2024-03-04 0 0 {name}\n"
 
 
+def data_of(kind: int, *days: str) -> bytes:
+    """The block of a generation's activity data with some days: a date each, and then times and activities. As on a card, the last word of
+    the last day gives nothing yet."""
+    records = []
+    for text in days:
+        date, *words = text.split(" ")
+        times = [60 * int(time[:2]) + int(time[3:]) for time in words[::2]]
+        activities = [["rest", "available", "work", "drive"].index(activity) for activity in words[1::2]]
+        day = datetime.date.fromisoformat(date).toordinal() - datetime.date(1970, 1, 1).toordinal()
+        records.append(random_cards.record(day, [random_cards.word(0, 0, *word) for word in zip(activities, times)]))
+    return random_cards.block(0x0504, kind, random_cards.activity_data(records, 0, 0))
+
+
+def card_of(*blocks: bytes, holder: str = HOLDER) -> bytes:
+    """A card file with some blocks of activity data."""
+    return bytes.fromhex(CARD.replace(HOLDER, holder)) + b"".join(blocks)
+
+
+def handed(period: str, driver: str, files: Iterable[tuple[str, bytes]], entries: str = "", gaps: Iterable[str] = ()) -> bytes:
+    """What is handed over: card files by their names, lines of entries, and what names the period, the driver, these and the gaps."""
+    first, past = period.split(" ")
+    members = [*files, ("entries.txt", entries.encode())]
+    listed = "".join(f"FILE {name} {len(content)} {hashlib.sha256(content).hexdigest()}\n" for name, content in members)
+    head = f"DRIVER {driver}FROM {first} PAST {past}\nPROGRAM {name_and_version()}\n"
+    return tar_of([*members, ("contents.txt", (head + listed + "".join(f"NOT HELD {gap}\n" for gap in gaps)).encode())])
+
+
+def with_counts(files: int, entries: int) -> str:
+    """The line of Anna, who has so many card files and entries."""
+    return f"17 {HOLDER} 2024-03-04 {files} {entries} Anna Berg\n"
+
+
 def days(month: str, weekdays: Sequence[str], first: int = 1) -> str:
     """The lines of days of which nothing is held, up to the month's last; its first day is the first of the days of the week."""
     return "".join(f"{month}-{day:02} {weekdays[(day - 1) % 7]}{NONE}" for day in range(first, LENGTHS[month] + 1))
@@ -228,6 +265,42 @@ YEARS = [
     b"2020-01-06 00:00,2021-01-06 00:00,,,\n", b"2021-01-06 00:00,2022-01-07 00:00,,,\n", b"2022-01-07 00:00,2023-01-08 00:00,,,\n",
     b"2023-01-08 00:00,2024-01-09 00:00,,,\n", b"2024-01-09 00:00,2024-03-04 00:00,,,\n",
 ]
+
+# A Monday up to 08:00; the same up to Tuesday, 07:00; and Tuesday and Wednesday up to 05:00, from a card that has no Monday any more.
+MONDAY = card_of(data_of(0, "2024-03-04 00:00 rest 06:00 work 08:00 drive"))
+TO_TUESDAY = card_of(data_of(0, "2024-03-04 00:00 rest 06:00 work 08:00 drive 10:00 rest", "2024-03-05 00:00 rest 07:00 work"))
+TO_WEDNESDAY = card_of(data_of(0, "2024-03-05 00:00 rest 07:00 work 09:00 rest", "2024-03-06 00:00 rest 05:00 work"))
+
+# Monday's rest from its second minute on, and work after it.
+SECOND_MINUTE = card_of(data_of(0, "2024-03-04 00:01 rest 08:00 work 09:00 rest"))
+WHOLE_REST = card_of(data_of(0, "2024-03-04 00:00 rest 08:00 work"))
+
+# A Monday by the first generation, and a Tuesday by the second.
+GENERATIONS = card_of(data_of(0, "2024-03-04 00:00 rest 06:00 work"), data_of(2, "2024-03-05 00:00 rest 07:00 work"))
+
+# A holder of whom only five bytes are letters or digits, and who has a Monday.
+SIGNS = "0d442fc3a420002d2e5f7e417a3039"
+SIGNED_CARD = card_of(data_of(0, "2024-03-04 00:00 rest 06:00 work"), holder=SIGNS)
+
+# What is handed over of March: of Anna, who has nothing, and who has a day.
+MARCH_DAYS = "2024-03-01 2024-04-01"
+DAY_NAME = "1-D1234567890123-20240304-20240305.ddd"
+DAY_GAPS = GAPS.splitlines()
+
+# The names of the files of three days, by their numbers.
+OF_THREE_DAYS = {
+    2: ("2-D1234567890123-20240304-20240305.ddd", TO_TUESDAY),
+    3: ("3-D1234567890123-20240305-20240306.ddd", TO_WEDNESDAY),
+}
+
+# Two days, and the lines of entries: two with a minute of these days each, an hour on the first of them, and days around.
+DAYS_9_10 = "2024-03-09 2024-03-11"
+EDGES = [
+    '3 2024-03-08 12:00 2024-03-09 00:01 rest kept "office" ""\n',
+    '4 2024-03-10 23:59 2024-03-11 00:01 rest kept "office" ""\n',
+]
+AT_NOON = '5 2024-03-09 12:00 2024-03-09 13:00 work {} "Zo\u00eb" "by hand; \'late\'"\n'
+AROUND = '6 2024-03-01 00:00 2024-03-20 00:00 rest kept "office" ""\n'
 
 TO_LAST_MONTH = 3_954  # weeks from 4 March 2024 to 14 December 2099
 
@@ -795,6 +868,257 @@ ROWS = {
         done("form 17", SIGNED_HEAD + b"2099-12-28 00:00,2099-12-31 23:58,,,\n"),
         done("form 17 2099-12-31", SIGNED_HEAD + b"2099-12-28 00:00,2099-12-31 00:00,,,\n"),
         done("form 17 2099-12-30", SIGNED_HEAD + b"2099-12-28 00:00,2099-12-30 00:00,,,\n"),
+    ],
+    "a handover": [
+        done(f"handover 17 {MARCH_DAYS}", handed(MARCH_DAYS, anna("Anna Berg"), [], gaps=["2024-03-01 00:00 2024-04-01 00:00"])),
+        ADDED,
+        done(f"handover 17 {MARCH_DAYS}", handed(MARCH_DAYS, with_counts(1, 0), [(DAY_NAME, DAY)], gaps=DAY_GAPS)),
+        *[
+            done(f"handover 17 {period}", handed(period, with_counts(1, 0), [(DAY_NAME, DAY)], gaps=gaps))
+            for period, gaps in {
+                "2024-03-04 2024-03-05": ["2024-03-04 17:00 2024-03-05 00:00"],
+                "2024-03-05 2024-03-06": ["2024-03-05 08:00 2024-03-06 00:00"],
+                "2024-03-04 2024-03-06": ["2024-03-04 17:00 2024-03-05 00:00", "2024-03-05 08:00 2024-03-06 00:00"],
+                "2024-03-03 2024-03-05": ["2024-03-03 00:00 2024-03-04 00:00", "2024-03-04 17:00 2024-03-05 00:00"],
+                "2024-01-01 2025-01-01": ["2024-01-01 00:00 2024-03-04 00:00", DAY_GAPS[1], "2024-03-05 08:00 2025-01-01 00:00"],
+                "2023-03-05 2024-03-05": ["2023-03-05 00:00 2024-03-04 00:00", "2024-03-04 17:00 2024-03-05 00:00"],
+            }.items()
+        ],
+        *[
+            done(f"handover 17 {period}", handed(period, with_counts(1, 0), [], gaps=[gap]))
+            for period, gap in {
+                "2024-03-01 2024-03-04": "2024-03-01 00:00 2024-03-04 00:00",
+                "2024-03-06 2024-03-07": "2024-03-06 00:00 2024-03-07 00:00",
+                "2000-01-03 2000-01-04": "2000-01-03 00:00 2000-01-04 00:00",
+                "2099-12-30 2099-12-31": "2099-12-30 00:00 2099-12-31 00:00",
+                "2022-12-31 2024-01-01": "2022-12-31 00:00 2024-01-01 00:00",
+            }.items()
+        ],
+        done("name 17", "name 17\n", "Zo\u00eb A".encode()),
+        done("base 17 2024-03-11", "base 2024-03-11\n"),
+        done(
+            f"handover 17 {MARCH_DAYS}",
+            handed(MARCH_DAYS, f"17 {HOLDER} 2024-03-11 1 0 Zo\u00eb A\n", [(DAY_NAME, DAY)], gaps=DAY_GAPS),
+        ),
+        done("file 17 1", DAY),
+    ],
+    "periods that are none": [
+        *[refused(f"handover {number} 2024-3-1 x", "N1 bad number") for number in ["017", "0", "1000000", "+17", ""]],
+        *[
+            refused(f"handover 17 {period}", "Z1 not of the shape")
+            for period in [
+                "2024-3-1 2024-02-30", "2024-03 2024-04-01", "2024-03-01T00:00 2024-04-01", " 2024-04-01", "x 2100-01-01",
+                "2024-03-01 2024-4-1", "2024-03-01 2024-04", "2024-03-01 ", "2024-04-01 2024-3-1", "2024-03-01 2024-04-01T00:00",
+            ]
+        ],
+        *[
+            refused(f"handover 17 {period}", "Z2 no such date")
+            for period in [
+                "2024-02-30 2024-3-1", "2023-02-29 2024-01-01", "2100-02-30 1999-12-31", "2024-03-01 2024-03-32", "2024-03-01 2100-02-29",
+            ]
+        ],
+        *[
+            refused(f"handover 17 {period}", "Z3 out of range")
+            for period in [
+                "2000-01-02 2024-02-30", "2000-01-02 2000-01-03", "2100-01-01 2024-3-1", "2024-03-01 2100-01-01", "2099-12-31 2100-01-01",
+                "2024-03-01 2000-01-02", "1999-12-31 1999-12-31",
+            ]
+        ],
+        *[
+            refused(f"handover {number} {period}", "Z4 period")
+            for number in [17, 18]
+            for period in [
+                "2024-03-01 2024-03-01", "2024-03-02 2024-03-01", "2024-01-01 2025-01-02", "2023-01-01 2024-01-03", "2099-12-31 2099-12-31",
+                "2000-01-03 2099-12-31", "2099-12-31 2000-01-03", "2022-12-31 2024-01-02",
+            ]
+        ],
+        *[
+            refused(f"handover 18 {period}", "S4 unknown driver")
+            for period in [MARCH_DAYS, "2024-01-01 2025-01-01", "2099-12-30 2099-12-31"]
+        ],
+        done(f"handover 17 {MARCH_DAYS}", handed(MARCH_DAYS, anna("Anna Berg"), [], gaps=["2024-03-01 00:00 2024-04-01 00:00"])),
+    ],
+    "files that cover a period": [
+        done("import both", "added driver 17 number 1\n", MONDAY),
+        done("import both", "added driver 17 number 2\n", TO_TUESDAY),
+        done("import both", "added driver 17 number 3\n", TO_WEDNESDAY),
+        *[
+            done(f"handover 17 {period}", handed(period, with_counts(3, 0), [OF_THREE_DAYS[number] for number in numbers], gaps=gaps))
+            for period, numbers, gaps in [
+                ("2024-03-04 2024-03-07", [3, 2], ["2024-03-06 05:00 2024-03-07 00:00"]),
+                ("2024-03-04 2024-03-06", [3, 2], []),
+                ("2024-03-04 2024-03-05", [2], []),
+                ("2024-03-05 2024-03-06", [3], []),
+                ("2024-03-05 2024-03-07", [3], ["2024-03-06 05:00 2024-03-07 00:00"]),
+                ("2024-03-06 2024-03-08", [3], ["2024-03-06 05:00 2024-03-08 00:00"]),
+                ("2024-03-07 2024-03-08", [], ["2024-03-07 00:00 2024-03-08 00:00"]),
+            ]
+        ],
+        done("import both", "repeated driver 17\n", MONDAY),
+        done("import both", "added driver 17 number 4\n", SATURDAY),
+        done(
+            "handover 17 2024-03-03 2024-03-10",
+            handed(
+                "2024-03-03 2024-03-10", with_counts(4, 0),
+                [("4-D1234567890123-20240309-20240309.ddd", SATURDAY), OF_THREE_DAYS[3], OF_THREE_DAYS[2]],
+                gaps=["2024-03-03 00:00 2024-03-04 00:00", "2024-03-06 05:00 2024-03-09 00:00", "2024-03-09 10:00 2024-03-10 00:00"],
+            ),
+        ),
+    ],
+    "a file for one minute": [
+        done("import both", "added driver 17 number 1\n", WHOLE_REST),
+        done("import both", "added driver 17 number 2\n", SECOND_MINUTE),
+        *[
+            done(
+                f"handover 17 {period}",
+                handed(
+                    period, with_counts(2, 0),
+                    [("2-D1234567890123-20240304-20240304.ddd", SECOND_MINUTE), ("1-D1234567890123-20240304-20240304.ddd", WHOLE_REST)],
+                    gaps=gaps,
+                ),
+            )
+            for period, gaps in {
+                "2024-03-04 2024-03-05": ["2024-03-04 09:00 2024-03-05 00:00"],
+                "2024-03-03 2024-03-06": ["2024-03-03 00:00 2024-03-04 00:00", "2024-03-04 09:00 2024-03-06 00:00"],
+            }.items()
+        ],
+    ],
+    "a file by its parts": [
+        done("import first", "added driver 17 number 1\n", GENERATIONS),
+        done(
+            "handover 17 2024-03-04 2024-03-06",
+            handed(
+                "2024-03-04 2024-03-06", with_counts(1, 0), [("1-D1234567890123-20240304-20240304.ddd", GENERATIONS)],
+                gaps=["2024-03-04 06:00 2024-03-06 00:00"],
+            ),
+        ),
+        done(
+            "handover 17 2024-03-05 2024-03-06",
+            handed("2024-03-05 2024-03-06", with_counts(1, 0), [], gaps=["2024-03-05 00:00 2024-03-06 00:00"]),
+        ),
+        done("import second", "added driver 17 number 2\n", GENERATIONS),
+        done(
+            "handover 17 2024-03-04 2024-03-06",
+            handed(
+                "2024-03-04 2024-03-06", with_counts(2, 0),
+                [("2-D1234567890123-20240305-20240305.ddd", GENERATIONS), ("1-D1234567890123-20240304-20240304.ddd", GENERATIONS)],
+                gaps=["2024-03-04 06:00 2024-03-05 00:00", "2024-03-05 07:00 2024-03-06 00:00"],
+            ),
+        ),
+        done("import both", "repeated driver 17\n", GENERATIONS),
+        done(
+            "handover 17 2024-03-04 2024-03-05",
+            handed(
+                "2024-03-04 2024-03-05", with_counts(2, 0), [("1-D1234567890123-20240304-20240304.ddd", GENERATIONS)],
+                gaps=["2024-03-04 06:00 2024-03-05 00:00"],
+            ),
+        ),
+    ],
+    "a file by both its parts": [
+        done("import second", "added driver 17 number 1\n", GENERATIONS),
+        done("import both", "added driver 17 number 2\n", GENERATIONS),
+        *[
+            done(
+                f"handover 17 {period}",
+                handed(period, with_counts(2, 0), [("2-D1234567890123-20240304-20240305.ddd", GENERATIONS)], gaps=gaps),
+            )
+            for period, gaps in {
+                "2024-03-04 2024-03-06": ["2024-03-04 06:00 2024-03-05 00:00", "2024-03-05 07:00 2024-03-06 00:00"],
+                "2024-03-05 2024-03-06": ["2024-03-05 07:00 2024-03-06 00:00"],
+            }.items()
+        ],
+    ],
+    "entries of a period": [
+        done("enter 17", "entered 1 to 2\n", hours("2024-03-07 00:00,2024-03-09 00:00,rest", "2024-03-11 00:00,2024-03-12 00:00,rest")),
+        done(f"handover 17 {DAYS_9_10}", handed(DAYS_9_10, with_counts(0, 2), [], gaps=["2024-03-09 00:00 2024-03-11 00:00"])),
+        done("enter 17", "entered 3 to 4\n", hours("2024-03-08 12:00,2024-03-09 00:01,rest", "2024-03-10 23:59,2024-03-11 00:01,rest")),
+        done(
+            f"handover 17 {DAYS_9_10}",
+            handed(DAYS_9_10, with_counts(0, 4), [], "".join(EDGES), ["2024-03-09 00:01 2024-03-10 23:59"]),
+        ),
+        done("enter 17", "entered 5 to 5\n", hours("2024-03-09 12:00,2024-03-09 13:00,work,Zo\u00eb,by hand; 'late'", head=SIGNED_HEAD)),
+        done(
+            f"handover 17 {DAYS_9_10}",
+            handed(
+                DAYS_9_10, with_counts(0, 5), [], "".join([*EDGES, AT_NOON.format("kept")]),
+                ["2024-03-09 00:01 2024-03-09 12:00", "2024-03-09 13:00 2024-03-10 23:59"],
+            ),
+        ),
+        done("withdraw 17 5", "withdrawn 5\n"),
+        done(
+            f"handover 17 {DAYS_9_10}",
+            handed(DAYS_9_10, with_counts(0, 5), [], "".join([*EDGES, AT_NOON.format("withdrawn")]), ["2024-03-09 00:01 2024-03-10 23:59"]),
+        ),
+        done("enter 17", "entered 6 to 6\n", hours("2024-03-01 00:00,2024-03-20 00:00,rest")),
+        done("withdraw 17 3 4", "withdrawn 3 to 4\n"),
+        done(
+            f"handover 17 {DAYS_9_10}",
+            handed(
+                DAYS_9_10, with_counts(0, 6), [],
+                "".join([*(line.replace("kept", "withdrawn") for line in EDGES), AT_NOON.format("withdrawn"), AROUND]),
+            ),
+        ),
+        done("withdraw 17 1 2", "withdrawn 1 to 2\n"),
+        done("withdraw 17 6 6", "withdrawn 6 to 6\n"),
+        done(
+            "handover 17 2024-03-12 2024-03-13",
+            handed(
+                "2024-03-12 2024-03-13", with_counts(0, 6), [], AROUND.replace("kept", "withdrawn"), ["2024-03-12 00:00 2024-03-13 00:00"],
+            ),
+        ),
+        done(
+            "handover 17 2024-03-20 2024-03-21",
+            handed("2024-03-20 2024-03-21", with_counts(0, 6), [], gaps=["2024-03-20 00:00 2024-03-21 00:00"]),
+        ),
+    ],
+    "files and entries of a period": [
+        ADDED,
+        done("enter 17", "entered 1 to 2\n", DRIVEN),
+        done("enter 17", "entered 3 to 3\n", REST_OF_DAY),
+        done(
+            "handover 17 2024-03-04 2024-03-06",
+            handed(
+                "2024-03-04 2024-03-06", with_counts(1, 3), [(DAY_NAME, DAY)],
+                '1 2024-03-04 08:00 2024-03-04 08:30 work kept "office" ""\n'
+                '2 2024-03-04 08:30 2024-03-04 17:00 drive kept "office" ""\n'
+                '3 2024-03-04 17:00 2024-03-05 00:00 rest kept "office" ""\n',
+                ["2024-03-05 08:00 2024-03-06 00:00"],
+            ),
+        ),
+        done("withdraw 17 2 3", "withdrawn 2 to 3\n"),
+        done(
+            "handover 17 2024-03-04 2024-03-05",
+            handed(
+                "2024-03-04 2024-03-05", with_counts(1, 3), [(DAY_NAME, DAY)],
+                '1 2024-03-04 08:00 2024-03-04 08:30 work kept "office" ""\n'
+                '2 2024-03-04 08:30 2024-03-04 17:00 drive withdrawn "office" ""\n'
+                '3 2024-03-04 17:00 2024-03-05 00:00 rest withdrawn "office" ""\n',
+                ["2024-03-04 17:00 2024-03-05 00:00"],
+            ),
+        ),
+    ],
+    "a holder of other signs": [
+        done("register", "registered 18\n", bert("bert-key-1", SIGNS, "2024-03-04")),
+        done("import both", "added driver 18 number 1\n", SIGNED_CARD),
+        done("import both", "added driver 17 number 1\n", MONDAY),
+        done(
+            "handover 18 2024-03-04 2024-03-05",
+            handed(
+                "2024-03-04 2024-03-05", f"18 {SIGNS} 2024-03-04 1 0 Bert\n", [("1-D_________Az09-20240304-20240304.ddd", SIGNED_CARD)],
+                gaps=["2024-03-04 06:00 2024-03-05 00:00"],
+            ),
+        ),
+        done(
+            "handover 17 2024-03-04 2024-03-05",
+            handed(
+                "2024-03-04 2024-03-05", with_counts(1, 0), [("1-D1234567890123-20240304-20240304.ddd", MONDAY)],
+                gaps=["2024-03-04 08:00 2024-03-05 00:00"],
+            ),
+        ),
+    ],
+    "a handover of the largest file": [
+        done("import both", "added driver 17 number 1\n", LARGEST_DAY),
+        done(f"handover 17 {MARCH_DAYS}", handed(MARCH_DAYS, with_counts(1, 0), [(DAY_NAME, LARGEST_DAY)], gaps=DAY_GAPS)),
     ],
 }
 

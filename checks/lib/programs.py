@@ -26,13 +26,17 @@ def told_by(words: Sequence[str | bytes], given: bytes = b"", **others: Any) -> 
     return made.stdout, made.returncode, without_advice(words, made.stdout, made.returncode, made.stderr)
 
 
+def name_and_version() -> str:
+    """The program's name, and the version that the file VERSION has: the first line of what it prints as its version."""
+    with open(os.path.join(TOP, "VERSION"), encoding="utf-8") as file:
+        return f"tacho {file.read().strip()}"
+
+
 @functools.cache
 def version_lines() -> bytes:
     """What the program prints as its version: that of the file VERSION, the schema of its archives, and the kit's logic."""
-    with open(os.path.join(TOP, "VERSION"), encoding="utf-8") as file:
-        version = file.read().strip()
     kit = subprocess.run(["rt", "version"], capture_output=True, check=True).stdout
-    return f"tacho {version}\nschema 2\n".encode() + kit.split(b" ", 1)[1]
+    return f"{name_and_version()}\nschema 2\n".encode() + kit.split(b" ", 1)[1]
 
 
 def unasked(words: Sequence[str]) -> tuple[bytes, int]:

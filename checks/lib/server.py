@@ -31,6 +31,7 @@ TEXT = "text/plain; charset=utf-8"
 STORED = "application/octet-stream"
 CSV = "text/csv; charset=utf-8"
 SVG = "image/svg+xml"
+TAR = "application/x-tar"
 
 
 # Replies
@@ -57,6 +58,7 @@ LARGE_HEAD = line("431 Request Header Fields Too Large", 15, "head too large")
 UNAVAILABLE = line("503 Service Unavailable", 12, "unavailable")
 BAD_NUMBER = line("400 Bad Request", 14, "N1 bad number")
 NO_DATE = line("400 Bad Request", 16, "Z2 no such date")
+NO_PERIOD = line("400 Bad Request", 10, "Z4 period")
 BREACHES = told("200 OK", 100, BREACH + EXAMINED)
 ADDED = line("201 Created", 25, "added driver 17 number 1")
 REPEATED = line("200 OK", 19, "repeated driver 17")

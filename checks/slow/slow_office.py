@@ -8,10 +8,11 @@ import datetime
 import functools
 import hashlib
 import re
+import string
 from collections.abc import Callable, Iterable, Sequence
 
-from lib.programs import version_lines
-from slow import slow_ahead, slow_archive, slow_csv, slow_evidence, slow_reader, slow_rules
+from lib.programs import name_and_version, version_lines
+from slow import slow_ahead, slow_archive, slow_csv, slow_evidence, slow_reader, slow_rules, slow_tar
 from slow.slow_archive import Marks, Refusal
 from slow.slow_rules import FoundBreach, FoundDebt, Report
 
@@ -115,6 +116,14 @@ def month_of(text: str) -> Month:
     if not 2000 <= year <= 2099:
         raise slow_reader.Fault("Z3 out of range")
     return year, month
+
+
+def period_of(start: str, past: str) -> range:
+    """The minutes of a period, from the first of one day to the last before another: Z1, Z2, Z3 of the one and of the other, then Z4."""
+    first, end = day_of(start), day_of(past)
+    if not 0 < 1440 * (end - first) <= LONGEST:
+        raise slow_reader.Fault("Z4 period")
+    return range(1440 * first, 1440 * end)
 
 
 def part_of(text: str) -> str:
@@ -559,6 +568,71 @@ def file_line(number: int, download: slow_archive.Download) -> str:
     )
 
 
+# Handovers
+
+
+def driver_line(driver: slow_archive.Driver) -> str:
+    """What is listed of a driver."""
+    return (
+        f"{driver.number} {driver.holder.hex()} {slow_reader.minute_text(1440 * driver.base)[:10]} {len(driver.downloads)} "
+        f"{len(driver.entries)} {driver.name.decode()}\n"
+    )
+
+
+def entry_line(number: int, entry: slow_archive.Entry) -> str:
+    """What is listed of an entry."""
+    return (
+        f"{number} {slow_reader.minute_text(entry.start)} {slow_reader.minute_text(entry.past)} {entry.mark[0]} "
+        f"{'withdrawn' if entry.is_withdrawn else 'kept'} \"{entry.author}\" \"{entry.note}\"\n"
+    )
+
+
+def covering_files(driver: slow_archive.Driver, period: range) -> list[int]:
+    """The numbers of the card files that cover a period, the newest first: each gives a minute and its mark of the period that no newer
+    one that is taken gives."""
+    taken: list[int] = []
+    given: set[slow_reader.Pair] = set()
+    for number in range(len(driver.downloads), 0, -1):
+        pairs = {(minute, mark) for minute, mark in driver.downloads[number - 1].marks.items() if minute in period}
+        if pairs - given:
+            taken.append(number)
+            given |= pairs
+    return taken
+
+
+def file_name(holder: bytes, number: int, marks: Marks) -> str:
+    """The name of a card file in a handover: its number, the card, and the days of the first and the last minute that it gives."""
+    card = "".join(chr(byte) if chr(byte) in string.ascii_letters + string.digits else "_" for byte in holder[1:])
+    first, last = [slow_reader.minute_text(minute)[:10].replace("-", "") for minute in (min(marks), max(marks))]
+    return f"{number}-{card}-{first}-{last}.ddd"
+
+
+def entries_within(driver: slow_archive.Driver, period: range) -> str:
+    """The lines of the entries, kept or withdrawn, that have a minute of a period."""
+    numbered = enumerate(driver.entries, 1)
+    return "".join(entry_line(number, entry) for number, entry in numbered if entry.past > period.start and entry.start < period.stop)
+
+
+def contents_text(driver: slow_archive.Driver, period: range, members: Iterable[slow_tar.Member]) -> str:
+    """What a handover has: whose it is, of which period, by which program, its members, and what of the period isn't held."""
+    first, past = [slow_reader.minute_text(minute)[:10] for minute in (period.start, period.stop)]
+    held = driver.held()
+    gaps = slow_reader.runs((minute, "") for minute in period if minute not in held)
+    return "".join([
+        f"DRIVER {driver_line(driver)}FROM {first} PAST {past}\nPROGRAM {name_and_version()}\n",
+        *(f"FILE {name} {len(content)} {hashlib.sha256(content).hexdigest()}\n" for name, content in members),
+        *(f"NOT HELD {slow_reader.minute_text(start)} {slow_reader.minute_text(end)}\n" for start, end, _ in gaps),
+    ])
+
+
+def handover_tar(driver: slow_archive.Driver, period: range) -> bytes:
+    """The tar file that is handed over of a driver and a period."""
+    taken = [(number, driver.downloads[number - 1]) for number in covering_files(driver, period)]
+    members = [(file_name(driver.holder, number, download.marks), download.file) for number, download in taken]
+    members.append(("entries.txt", entries_within(driver, period).encode()))
+    return slow_tar.tar([*members, ("contents.txt", contents_text(driver, period, members).encode())])
+
+
 # The office
 
 
@@ -617,6 +691,7 @@ class Office:
             "entries": lambda: self.entries(*others),
             "file": lambda: self.file(*others),
             "files": lambda: self.files(*others),
+            "handover": lambda: self.handover(*others),
             "drivers": lambda: self.drivers(*others),
             "stretches": lambda: self.stretches(*others),
             "debts": lambda: self.debts(*others),
@@ -759,12 +834,7 @@ class Office:
 
     def entries(self, number: str) -> str:
         """The entries of a driver."""
-        lines = [
-            f"{place} {slow_reader.minute_text(entry.start)} {slow_reader.minute_text(entry.past)} {entry.mark[0]} "
-            f"{'withdrawn' if entry.is_withdrawn else 'kept'} \"{entry.author}\" \"{entry.note}\"\n"
-            for place, entry in enumerate(self.driver(number).entries, 1)
-        ]
-        return "".join(lines)
+        return "".join(entry_line(place, entry) for place, entry in enumerate(self.driver(number).entries, 1))
 
     def file(self, number: str, download: str) -> bytes:
         """A card file of a driver: N1, S4, S10."""
@@ -775,11 +845,15 @@ class Office:
         """A line for each card file of a driver: N1, S4."""
         return "".join(file_line(place, download) for place, download in enumerate(self.driver(number).downloads, 1))
 
+    def handover(self, number: str, start: str, past: str) -> bytes:
+        """A driver's card files and entries of a period, and what is in it, as a tar file: N1, Z1, Z2, Z3, Z4, S4."""
+        driver, period = number_of(number, LAST_DRIVER), period_of(start, past)
+        return handover_tar(self.archive.driver(driver), period)
+
     def drivers(self, number: str = "") -> str:
         """A line for each driver, or for the one with a number: N1, S4."""
         listed = [self.driver(number)] if number else [driver for _, driver in sorted(self.archive.drivers.items())]
-        return "".join(f"{driver.number} {driver.holder.hex()} {slow_reader.minute_text(1440 * driver.base)[:10]} {len(driver.downloads)} "
-                       f"{len(driver.entries)} {driver.name.decode()}\n" for driver in listed)
+        return "".join(map(driver_line, listed))
 
     def stretches(self, number: str) -> str:
         """The breaches of a driver by stretches."""

@@ -18,6 +18,7 @@ TEXT = "text/plain; charset=utf-8"
 # By the command: the type of what it tells, where that isn't TEXT.
 TYPES = {
     "file": "application/octet-stream",
+    "handover": "application/x-tar",
     "chart": "image/svg+xml",
     "form": "text/csv; charset=utf-8",
     "forecast": "text/csv; charset=utf-8",
@@ -80,6 +81,7 @@ OFFICE_ROUTES = {
     "/drivers/{n}/stretches": {"GET": "stretches"},
     "/drivers/{n}/debts": {"GET": "debts"},
     "/drivers/{n}/files": {"GET": "files"},
+    "/drivers/{n}/handover/{from}/{past}": {"GET": "handover"},
     "/drivers/{n}/form": {"GET": "form"},
     "/drivers/{n}/form/{date}": {"GET": "form"},
     "/drivers/{n}/why/{month}": {"GET": "why"},
@@ -106,6 +108,7 @@ DRIVER_ROUTES = {
     "/me/stretches": {"GET": "stretches"},
     "/me/debts": {"GET": "debts"},
     "/me/files": {"GET": "files"},
+    "/me/handover/{from}/{past}": {"GET": "handover"},
     "/me/form": {"GET": "form"},
     "/me/form/{date}": {"GET": "form"},
     "/me/why/{month}": {"GET": "why"},
