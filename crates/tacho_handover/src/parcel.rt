@@ -22,7 +22,7 @@ const SPARE: usize = 4096;
 /// Room for a card file besides its bytes: its header, the rest of its last block, and its line in the contents.
 const SPARE_FOR_EACH: usize = 1280;
 
-/// How many bytes a tar file of card files and of texts with so many bytes has at most.
+/// Room in bytes for a tar file of card files and of texts, which have `texts` bytes together.
 pub fn room_for(files: &[FileSummary], texts: usize) -> usize {
     let mut room = texts.saturating_add(SPARE);
     for file in files {
@@ -64,7 +64,7 @@ impl Model for Parcel {
 }
 
 impl Parcel {
-    /// Begins the handover of a period from `start` to before `past`, with room for a tar file of so many bytes.
+    /// Begins the handover of a period from `start` to before `past`, with room for a tar file of `room` bytes.
     pub fn new(
         alloc: Global,
         start: Minute,
