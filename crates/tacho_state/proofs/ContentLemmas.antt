@@ -1,12 +1,13 @@
 -- A card file has one content for each part.
-use Rattle.std.proofs.Common.{◌≡◌, ℕ, List, Result, Ok, Err, refl, sym, ap, ap₂, ◌∙◌}
+use Rattle.std.proofs.Common.{◌≡◌, ℕ, List, Result, Ok, Err, refl, sym, ap, ap₂, arith, subst, ◌∙◌}
 use Rattle.tacho_time.specs.declared.span.Span.{Span}
 use Rattle.tacho_card.specs.declared.fault.CardFault.{CardFault}
 use Rattle.tacho_card.specs.declared.file.Part.{Part}
+use Rattle.tacho_card.specs.declared.file.Part.TheVariants as part
 use Rattle.tacho_card.specs.CardFile.{FileBlock, blocks_of, card_file, file_holder, then_held, then_single, with_holder, ReadsFile}
 use Rattle.tacho_card.proofs.FileReadingLaw.{some_reading, one_reading}
 use Rattle.tacho_state.specs.Steps.{Content}
-use Rattle.tacho_state.specs.Content.{BlocksTell, ReadTells, FileTells}
+use Rattle.tacho_state.specs.Content.{BlocksTell, FileTells, HasContent, ReadTells, part_number}
 
 -- blocks that name a holder have a content
 blocks_tell : (part : Part) (blocks : List FileBlock) (holder : List ℕ) → file_holder blocks ≡ Ok holder
@@ -54,3 +55,21 @@ one_read part (Err fault) a b h k = h ∙ sym k
 -- the content of a file is unique
 pub one_content : (part : Part) (bytes : List ℕ) (a b : Result Content CardFault) → FileTells part bytes a → FileTells part bytes b → a ≡ b
 one_content part bytes a b h k = one_read part (card_file bytes) a b h k
+
+-- no two parts have the same number
+pub one_part : (a b : Part) → part_number a ≡ part_number b → a ≡ b
+one_part part.Both part.Both e = refl
+one_part part.Both part.First e = absurd (omega (arith, e))
+one_part part.Both part.Second e = absurd (omega (arith, e))
+one_part part.First part.Both e = absurd (omega (arith, e))
+one_part part.First part.First e = refl
+one_part part.First part.Second e = absurd (omega (arith, e))
+one_part part.Second part.Both e = absurd (omega (arith, e))
+one_part part.Second part.First e = absurd (omega (arith, e))
+one_part part.Second part.Second e = refl
+
+-- a card file has one content for the part with a number
+pub content_once : (number : ℕ) (file : List ℕ) (a b : Content) → HasContent number file a → HasContent number file b → a ≡ b
+content_once number file a b (p, is, tells) (q, also, told) =
+    let same : Ok a ≡ Ok b = one_content p file (Ok a) (Ok b) tells (subst (λ (x : Part). FileTells x file (Ok b)) (one_part q p (also ∙ sym is)) told) in
+    cc

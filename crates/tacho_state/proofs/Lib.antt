@@ -3,7 +3,10 @@ pub mod NearLemmas
 pub mod OrderLemmas
 pub mod GainLemmas
 pub mod WithdrawLemmas
+pub mod EqualLemmas
 pub mod PutLemmas
+pub mod DistinctLemmas
+pub mod ListedLemmas
 pub mod RangeLemmas
 mod NameLemmas
 pub mod LeastLemmas
@@ -11,5 +14,6 @@ pub mod StepLemmas
 pub mod MapLemmas
 mod PartLemmas
 pub mod ContentLemmas
+pub mod ReadLemmas
 pub mod RunLemmas
 pub mod SummaryLemmas

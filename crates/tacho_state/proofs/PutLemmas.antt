@@ -1,30 +1,15 @@
 -- A state with another driver in place of the one with the same number.
-use Rattle.std.proofs.Common.{◌≡◌, ◌≢◌, ℕ, ◌==◌, Bool, true, false, cond, List, [], ◌∷◌, Option, Some, refl, sym, ap, ◌∙◌, subst, bytes_eq, arith}
+use Rattle.std.proofs.Common.{◌≡◌, ◌≢◌, ℕ, ◌==◌, Bool, true, false, cond, List, [], ◌∷◌, Option, Some, refl, sym, ap, ◌∙◌, subst, bytes_eq}
 use Rattle.std.specs.Prelude.{option_map}
-use Rattle.std.proofs.lemmas.Bool.Decides.{nat_tests}
 use Rattle.tacho_state.specs.State.{Driver, State, driver_of, driver_with_key, put}
-
--- a number equals itself
-same_number : (n : ℕ) → (n == n) ≡ true
-same_number n = grind (arith, nat_tests)
-
--- numbers that pass the test are equal
-is_number : (j n : ℕ) → (j == n) ≡ true → j ≡ n
-is_number j n e = grind (arith, nat_tests)
-
--- different numbers fail it
-other_number : (j n : ℕ) → j ≢ n → (j == n) ≡ false
-other_number j n d = go (j == n) refl where
-  go : (b : Bool) → (j == n) ≡ b → b ≡ false
-  go true e = absurd (d (is_number j n e))
-  go false e = refl
+use Rattle.tacho_state.proofs.EqualLemmas.{eq_not, eq_self, eq_true}
 
 -- a driver who is found by a number has this number
 pub found_number : (n : ℕ) (s : State) (d : Driver) → driver_of n s ≡ Some d → d.number ≡ n
 found_number n [] d e = cc
 found_number n (x ∷ s) d e = go (x.number == n) refl e (found_number n s d) where
   go : (b : Bool) → (x.number == n) ≡ b → cond b (Some x) (driver_of n s) ≡ Some d → (driver_of n s ≡ Some d → d.number ≡ n) → d.number ≡ n
-  go true o f more = let same : x ≡ d = cc in ap (λ (y : Driver). y.number) (sym same) ∙ is_number x.number n o
+  go true o f more = let same : x ≡ d = cc in ap (λ (y : Driver). y.number) (sym same) ∙ eq_true x.number n o
   go false o f more = more f
 
 -- the new driver is found by the number
@@ -34,7 +19,7 @@ put_found d old (x ∷ s) e = go (x.number == d.number) refl e (put_found d old 
   go : (b : Bool) → (x.number == d.number) ≡ b → cond b (Some x) (driver_of d.number s) ≡ Some old
       → (driver_of d.number s ≡ Some old → driver_of d.number (put d s) ≡ Some d)
       → driver_of d.number (cond b (d ∷ s) (x ∷ put d s)) ≡ Some d
-  go true o e more = ap (λ b. cond b (Some d) (driver_of d.number s)) (same_number d.number)
+  go true o e more = ap (λ b. cond b (Some d) (driver_of d.number s)) (eq_self d.number)
   go false o e more = ap (λ b. cond b (Some x) (driver_of d.number (put d s))) o ∙ more e
 
 -- drivers with other numbers stay
@@ -44,8 +29,8 @@ put_other d n (x ∷ s) other = go (x.number == d.number) refl (put_other d n s 
   go : (b : Bool) → (x.number == d.number) ≡ b → driver_of n (put d s) ≡ driver_of n s
       → driver_of n (cond b (d ∷ s) (x ∷ put d s)) ≡ cond (x.number == n) (Some x) (driver_of n s)
   go true o more =
-      ap (λ b. cond b (Some d) (driver_of n s)) (other_number d.number n (λ e. other (sym e)))
-      ∙ sym (ap (λ b. cond b (Some x) (driver_of n s)) (other_number x.number n (λ e. other (sym e ∙ is_number x.number d.number o))))
+      ap (λ b. cond b (Some d) (driver_of n s)) (eq_not d.number n (λ e. other (sym e)))
+      ∙ sym (ap (λ b. cond b (Some x) (driver_of n s)) (eq_not x.number n (λ e. other (sym e ∙ eq_true x.number d.number o))))
   go false o more = ap (λ (r : Option Driver). cond (x.number == n) (Some x) r) more
 
 -- of two drivers with one number, the second stays
@@ -55,7 +40,7 @@ put_twice d first (x ∷ s) same = go (x.number == first.number) refl (put_twice
   go : (b : Bool) → (x.number == first.number) ≡ b → put d (put first s) ≡ put d s
       → put d (cond b (first ∷ s) (x ∷ put first s)) ≡ cond (x.number == d.number) (d ∷ s) (x ∷ put d s)
   go true o more =
-      ap (λ b. cond b (d ∷ s) (first ∷ put d s)) (subst (λ (k : ℕ). (k == d.number) ≡ true) (sym same) (same_number d.number))
+      ap (λ b. cond b (d ∷ s) (first ∷ put d s)) (subst (λ (k : ℕ). (k == d.number) ≡ true) (sym same) (eq_self d.number))
       ∙ sym (ap (λ b. cond b (d ∷ s) (x ∷ put d s)) (subst (λ (k : ℕ). (x.number == k) ≡ true) same o))
   go false o more =
       let not_here : (x.number == d.number) ≡ false = subst (λ (k : ℕ). (x.number == k) ≡ false) same o in
@@ -88,7 +73,7 @@ put_keys d old key (x ∷ s) e same = go (x.number == d.number) refl e (λ f. pu
       ∙ here (bytes_eq x.key key) where
         here : (c : Bool) → option_map (λ (y : Driver). y.number) (cond c (Some d) (driver_with_key key s))
             ≡ option_map (λ (y : Driver). y.number) (cond c (Some x) (driver_with_key key s))
-        here true = ap (λ (k : ℕ). Some k) (sym (is_number x.number d.number o))
+        here true = ap (λ (k : ℕ). Some k) (sym (eq_true x.number d.number o))
         here false = refl
   go false o f more = here (bytes_eq x.key key) where
     here : (c : Bool) → option_map (λ (y : Driver). y.number) (cond c (Some x) (driver_with_key key (put d s)))

@@ -76,3 +76,11 @@ pub record Reads {K A B : Type 0} (stands : K → State → Type 0) (is_clean is
   pub live : is_clean new → IsAnswered result → is_live new
   pub crash : is_clean new → (past : List State) → leaves old past → leaves new past
   pub of_no_file : IsOfNoFile result
+
+-- Calls that only read the archive, one after the other. They changed nothing.
+pub record OnlyRead {K : Type 0} (stands : K → State → Type 0) (is_clean : K → Type 0) (leaves : K → List State → Type 0)
+    (is_same : K → K → Type 0) (old new : K) : Type 0 where
+  pub clean : is_clean new → is_clean old
+  pub state : is_clean new → (s : State) → stands old s → stands new s
+  pub same : is_clean new → (s : State) → stands old s → is_same old new
+  pub crash : is_clean new → (past : List State) → leaves old past → leaves new past

@@ -1,5 +1,5 @@
 -- Trusted: The content of a card file for each part: a relation with exactly one solution.
-use Rattle.std.specs.Prelude.{◌≡◌, ℕ, List, Result, Ok, Err}
+use Rattle.std.specs.Prelude.{◌≡◌, ℕ, List, [], ◌∷◌, Result, Ok, Err}
 use Rattle.tacho_card.specs.declared.fault.CardFault.{CardFault}
 use Rattle.tacho_card.specs.declared.fault.CardFault.TheVariants as card
 use Rattle.tacho_card.specs.declared.file.Part.{Part}
@@ -7,6 +7,7 @@ use Rattle.tacho_card.specs.declared.file.Part.TheVariants as part
 use Rattle.tacho_card.specs.CardFile.{FileBlock, card_file, file_holder, ReadsFile}
 use Rattle.tacho_state.specs.declared.fault.StoreFault.{StoreFault}
 use Rattle.tacho_state.specs.declared.fault.StoreFault.TheVariants.{Card, Memory}
+use Rattle.tacho_state.specs.State.{Download}
 use Rattle.tacho_state.specs.Steps.{Content}
 
 -- the number of a part: 0 both generations, 1 the first, 2 the second
@@ -37,3 +38,9 @@ HasContent number bytes content = (part : Part) × (part_number part ≡ number)
 abbrev pub fault_of_card : CardFault → StoreFault
 fault_of_card card.Memory = Memory
 fault_of_card fault = Card fault
+
+-- each download's spans are what its file gives for its part
+abbrev pub AreRead : List Download → Type 0
+AreRead [] = Unit {0}
+AreRead (d ∷ ds) =
+    ((part : Part) × (holder : List ℕ) × (part_number part ≡ d.part) × FileTells part d.file (Ok (record { holder = holder; spans = d.spans }))) × AreRead ds

@@ -6,6 +6,7 @@ pub mod Steps
 pub mod Limits
 pub mod Registration
 pub mod Content
+pub mod Distinct
 pub mod Files
 pub mod Reported
 pub mod Acts

@@ -169,6 +169,9 @@ owner key s = Ok (option_map (λ (d : Driver). d.number) (driver_with_key key s)
 abbrev pub name_reading : ℕ → State → Result (List ℕ) StoreFault
 name_reading n s = reading_of (λ d. Ok d.name) (driver_of n s)
 
+abbrev pub key_reading : ℕ → State → Result (List ℕ) StoreFault
+key_reading n s = reading_of (λ d. Ok d.key) (driver_of n s)
+
 -- the driver's timeline: the mark of each held minute
 abbrev pub line_reading : ℕ → State → Result (ℕ → Option Mark) StoreFault
 line_reading n s = reading_of (λ d. Ok (held_mark d)) (driver_of n s)

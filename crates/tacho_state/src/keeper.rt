@@ -2,7 +2,7 @@ ghost use Rattle.std.specs.Prelude.{◌≡◌, ◌⊎◌, ◌∷◌, ◌≤◌, 
 ghost use Rattle.tacho_line.specs.Line.{mark_at};
 ghost use Rattle.tacho_card.specs.declared.fault.CardFault.{CardFault};
 ghost use Rattle.tacho_state.specs.State.{State};
-ghost use Rattle.tacho_state.specs.Steps.{Content, register_step, import_step, enter_step, withdraw_range_step, rebase_step, rekey_step, rename_step, owner, name_reading, line_reading, entries_reading, file_reading, report_reading};
+ghost use Rattle.tacho_state.specs.Steps.{Content, register_step, import_step, enter_step, withdraw_range_step, rebase_step, rekey_step, rename_step, owner, name_reading, key_reading, line_reading, entries_reading, file_reading, report_reading};
 ghost use Rattle.tacho_state.specs.Reported.{AreStretchesOf, IsHeldWithin, IsHeldFromBase, IsDriverReport};
 ghost use Rattle.tacho_stretches.specs.Stretches.{judged_of};
 ghost use Rattle.tacho_state.specs.Batch.{IsBatch, batch_of};
@@ -148,6 +148,10 @@ pub trait Keeper {
     /// Returns the name of a driver: S4.
     fn name(&mut self, alloc: Global, driver: u32) -> Result<String, StoreFault>
         ensures { Reads stands is_clean is_live leaves is_same (λ name. string_bytes name) self.old self.new result (name_reading driver) };
+
+    /// Returns the key of a driver: S4.
+    fn key(&mut self, alloc: Global, driver: u32) -> Result<String, StoreFault>
+        ensures { Reads stands is_clean is_live leaves is_same (λ key. string_bytes key) self.old self.new result (key_reading driver) };
 
     /// Returns the timeline of a driver: S4.
     fn line(&mut self, alloc: Global, driver: u32) -> Result<Line, StoreFault>

@@ -8,10 +8,11 @@ use Rattle.tacho_line.specs.Line.{AreGains}
 use Rattle.tacho_state.specs.Disjoint.{Keeps, near, AreInRange}
 use Rattle.tacho_state.specs.State.{Entry, Driver, State, Held, AreFull, driver_of, entered_spans, put, with_batch}
 use Rattle.tacho_state.proofs.GainLemmas.{batch_kept}
+use Rattle.tacho_state.proofs.EqualLemmas.{eq_not, eq_self}
 use Rattle.tacho_tables.specs.Rows.{DriverRow, EntryRow}
 use Rattle.tacho_tables.specs.Tables.{Tables, with_entries}
 use Rattle.tacho_reading.specs.Standing.{driver_columns, entry_row, rows_of_entries, driver_entry_rows, spans_of, RowsRepresent, TablesRepresent}
-use Rattle.tacho_reading.proofs.RowLemmas.{eq_self, eq_not, added_own, added_other, added_marks}
+use Rattle.tacho_reading.proofs.RowLemmas.{added_own, added_other, added_marks}
 use Rattle.tacho_state.proofs.PutLemmas.{found_number}
 use Rattle.tacho_reading.proofs.StateLemmas.{SameOfDriver, found_of, put_is, rows_put}
 use Rattle.tacho_store.specs.After.{with_entered}

@@ -4,15 +4,16 @@ use Rattle.tacho_time.specs.declared.span.Span.{Span}
 use Rattle.tacho_time.specs.Spans.{Gives, IsCanonicalOf}
 use Rattle.tacho_line.specs.Line.{AreGains}
 use Rattle.tacho_card.specs.declared.file.Part.{Part}
-use Rattle.tacho_state.specs.Content.{FileTells, part_number}
+use Rattle.tacho_state.specs.Content.{AreRead, FileTells, part_number}
 use Rattle.tacho_state.specs.Disjoint.{Keeps, near, AreInRange}
 use Rattle.tacho_state.specs.State.{Download, Driver, State, IsDownloaded, Held, driver_of, put, with_download}
 use Rattle.tacho_state.specs.Steps.{Content}
 use Rattle.tacho_state.proofs.GainLemmas.{download_kept}
+use Rattle.tacho_state.proofs.EqualLemmas.{eq_not, eq_self}
 use Rattle.tacho_tables.specs.Rows.{DriverRow, DownloadRow}
 use Rattle.tacho_tables.specs.Tables.{Tables, with_downloads}
-use Rattle.tacho_reading.specs.Standing.{driver_columns, spans_of, AreRead, RowsRepresent, TablesRepresent}
-use Rattle.tacho_reading.proofs.RowLemmas.{eq_self, eq_not, added_own, added_other, added_marks}
+use Rattle.tacho_reading.specs.Standing.{driver_columns, spans_of, RowsRepresent, TablesRepresent}
+use Rattle.tacho_reading.proofs.RowLemmas.{added_own, added_other, added_marks}
 use Rattle.tacho_reading.proofs.DownloadLemmas.{download_row, rows_append, own_added, other_added, one_more}
 use Rattle.tacho_state.proofs.PutLemmas.{found_number}
 use Rattle.tacho_reading.proofs.StateLemmas.{SameOfDriver, found_of, put_is, rows_put}

@@ -16,11 +16,12 @@ use Rattle.tacho_state.specs.declared.fault.StoreFault.{StoreFault}
 use Rattle.tacho_state.specs.declared.fault.StoreFault.TheVariants.{Card, Memory, Store, UnknownDriver}
 use Rattle.tacho_state.specs.declared.file.FileSummary.{FileSummary}
 use Rattle.tacho_state.specs.Acts.{Answers}
-use Rattle.tacho_state.specs.Content.{FileTells, HasContent, part_number}
+use Rattle.tacho_state.specs.Content.{AreRead, FileTells, HasContent, part_number}
 use Rattle.tacho_state.specs.Files.{ListedFile, listed_file, listed_from, files_reading, told_file}
 use Rattle.tacho_state.specs.State.{Download, Driver, State, driver_of, download_from}
 use Rattle.tacho_state.specs.Steps.{Content, reading_of}
-use Rattle.tacho_state.proofs.ContentLemmas.{one_content}
+use Rattle.tacho_state.proofs.ContentLemmas.{one_content, one_part}
+use Rattle.tacho_state.proofs.EqualLemmas.{eq_not, eq_self}
 use Rattle.tacho_tables.specs.Rows.{DownloadRow}
 use Rattle.tacho_tables.specs.declared.rows.StoredDriver.{StoredDriver}
 use Rattle.tacho_tables.specs.declared.rows.StoredFile.{StoredFile}
@@ -29,28 +30,15 @@ use Rattle.tacho_tables.proofs.CallLemmas.{stays_then}
 use Rattle.tacho_reading.specs.Calls.{Tells}
 use Rattle.tacho_reading.specs.Finding.{IsDriver}
 use Rattle.tacho_reading.specs.Kept.{HasGivenUp}
-use Rattle.tacho_reading.specs.Standing.{AreRead, Represents}
+use Rattle.tacho_reading.specs.Standing.{Represents}
 use Rattle.tacho_reading.proofs.DownloadLemmas.{download_at}
 use Rattle.tacho_reading.proofs.LookUpLemmas.{the_driver}
-use Rattle.tacho_reading.proofs.RowLemmas.{eq_self, eq_not}
 use Rattle.tacho_reading.proofs.SeenLemmas.{still_archive, still_seen}
 use Rattle.tacho_reading.proofs.StateLemmas.{found_of}
 use Rattle.tacho_store.specs.Listing.{IsFileOf}
 use Rattle.tacho_store.proofs.StepsLemmas.{keeps_after}
 
 -- ---- the content of one file
-
--- no two parts have the same number
-one_part : (a b : Part) → part_number a ≡ part_number b → a ≡ b
-one_part part.Both part.Both e = refl
-one_part part.Both part.First e = absurd (omega (arith, e))
-one_part part.Both part.Second e = absurd (omega (arith, e))
-one_part part.First part.Both e = absurd (omega (arith, e))
-one_part part.First part.First e = refl
-one_part part.First part.Second e = absurd (omega (arith, e))
-one_part part.Second part.Both e = absurd (omega (arith, e))
-one_part part.Second part.First e = absurd (omega (arith, e))
-one_part part.Second part.Second e = refl
 
 -- a file has one content for the part with a number
 one_told : (number : ℕ) (bytes : List ℕ) (p : Part) (told : Result Content CardFault) (content : Content) → part_number p ≡ number

@@ -5,17 +5,18 @@ use Rattle.std.proofs.lemmas.List.Elements.{filter-append}
 use Rattle.sqlite.specs.Tree.{Trees}
 use Rattle.tacho_time.specs.declared.span.Span.{Span}
 use Rattle.tacho_line.specs.Line.{AreGains}
+use Rattle.tacho_state.specs.Distinct.{AreDistinct}
 use Rattle.tacho_state.specs.State.{Entry, Driver, State, driver_of, entered_spans, put, with_download, with_batch}
+use Rattle.tacho_state.proofs.EqualLemmas.{eq_not, eq_true}
+use Rattle.tacho_state.proofs.DistinctLemmas.{number_not}
 use Rattle.tacho_tables.specs.Rows.{SpanRow, DownloadRow, EntryRow, DriverRow}
 use Rattle.tacho_tables.specs.Tables.{Tables, HasTables, has_number, is_of, is_row_near}
-use Rattle.tacho_reading.specs.Standing.{Represents, TablesRepresent, AreDistinct, HaveSameRowsOf, KeepsRowsOf, Follows, driver_columns, downloads_of, driver_entry_rows, rows_of_downloads, rows_of_entries, span_row}
+use Rattle.tacho_reading.specs.Standing.{Represents, TablesRepresent, HaveSameRowsOf, KeepsRowsOf, Follows, driver_columns, downloads_of, driver_entry_rows, rows_of_downloads, rows_of_entries, span_row}
 use Rattle.tacho_store.specs.Withdrawing.{HaveSameSpansOf}
-use Rattle.tacho_reading.proofs.RowLemmas.{eq_not, eq_true}
 use Rattle.tacho_state.proofs.PutLemmas.{found_number, put_found}
 use Rattle.tacho_reading.proofs.StateLemmas.{found_of}
 use Rattle.tacho_reading.proofs.DriverRowLemmas.{no_number_row}
 use Rattle.tacho_reading.proofs.EntryLemmas.{entry_all}
-use Rattle.tacho_store.proofs.RegistrationTablesLemmas.{number_not}
 
 -- ---- rows of a state
 

@@ -1,80 +1,23 @@
 -- The tables after a registration, and after a change of a base, of a key or of a name.
-use Rattle.std.proofs.Common.{◌≡◌, ◌≢◌, ℕ, ◌==◌, not, Bool, true, false, cond, List, [], ◌∷◌, ◌++◌, Some, None, map, refl, sym, ap, ◌∙◌, subst}
-use Rattle.std.specs.Str.{bytes_eq}
+use Rattle.std.proofs.Common.{◌≡◌, ◌≢◌, ℕ, ◌==◌, true, false, cond, List, [], ◌∷◌, ◌++◌, Some, None, map, refl, sym, ap, ◌∙◌, subst}
 use Rattle.std.proofs.lemmas.List.{map-append}
 use Rattle.tacho_time.specs.declared.span.Span.{Span}
 use Rattle.tacho_time.specs.Spans.{Gives}
+use Rattle.tacho_state.specs.Distinct.{HasNot}
 use Rattle.tacho_state.specs.Disjoint.{Keeps}
 use Rattle.tacho_state.specs.State.{Download, Entry, Driver, State, driver_of, driver_with_key, holding, put, with_base, with_key, with_name}
 use Rattle.tacho_state.specs.Steps.{is_another}
 use Rattle.tacho_tables.specs.Rows.{DriverRow}
 use Rattle.tacho_tables.specs.Tables as tables
 use Rattle.tacho_tables.specs.Tables.{Tables}
-use Rattle.tacho_reading.specs.Standing.{driver_columns, RowsRepresent, RowsRepresentEach, HasNot, HasNoKey, IsHolderFree, AreDistinct, AreKnown, TablesRepresent}
-use Rattle.tacho_reading.proofs.RowLemmas.{eq_self, eq_not, eq_true, eq_false}
-use Rattle.tacho_reading.proofs.DriverRowLemmas.{bytes_true, bytes_false}
+use Rattle.tacho_reading.specs.Standing.{driver_columns, RowsRepresent, RowsRepresentEach, AreKnown, TablesRepresent}
+use Rattle.tacho_state.proofs.EqualLemmas.{eq_not, eq_self}
+use Rattle.tacho_state.proofs.DistinctLemmas.{added_has, distinct_added, holder_not, key_free, key_not, number_not}
 use Rattle.tacho_state.proofs.PutLemmas.{found_number}
-use Rattle.tacho_reading.proofs.StateLemmas.{SameOfDriver, IsKeyFreeFor, nobody_has, found_of, put_is, put_with_key, rows_put}
+use Rattle.tacho_reading.proofs.StateLemmas.{SameOfDriver, found_of, put_is, put_with_key, rows_put}
 use Rattle.tacho_store.specs.After.{with_driver, with_rebased, with_rekeyed, with_renamed}
 
 -- ---- a driver at the end
-
--- a number that wasn't found isn't in the state
-pub number_not : (n : ℕ) (s : State) → driver_of n s ≡ None → HasNot n s
-number_not n [] e = tt
-number_not n (x ∷ s) e = go (x.number == n) refl e (number_not n s) where
-  go : (b : Bool) → (x.number == n) ≡ b → cond b (Some x) (driver_of n s) ≡ None → (driver_of n s ≡ None → HasNot n s) → HasNot n (x ∷ s)
-  go true o f more = cc
-  go false o f more = (eq_false x.number n o, more f)
-
--- a key that wasn't found isn't in the state
-key_not : (key : List ℕ) (s : State) → driver_with_key key s ≡ None → HasNoKey key s
-key_not key [] e = tt
-key_not key (x ∷ s) e = go (bytes_eq x.key key) refl e (key_not key s) where
-  go : (b : Bool) → bytes_eq x.key key ≡ b → cond b (Some x) (driver_with_key key s) ≡ None → (driver_with_key key s ≡ None → HasNoKey key s)
-      → HasNoKey key (x ∷ s)
-  go true o f more = cc
-  go false o f more = (bytes_false x.key key o, more f)
-
--- a holder that wasn't found isn't in the state
-holder_not : (holder : List ℕ) (s : State) → holding holder s ≡ None → IsHolderFree holder s
-holder_not holder [] e = tt
-holder_not holder (x ∷ s) e = go (bytes_eq x.holder holder) refl e (holder_not holder s) where
-  go : (b : Bool) → bytes_eq x.holder holder ≡ b → cond b (Some x) (holding holder s) ≡ None
-      → (holding holder s ≡ None → IsHolderFree holder s) → IsHolderFree holder (x ∷ s)
-  go true o f more = cc
-  go false o f more = (bytes_false x.holder holder o, more f)
-
--- the new driver has another number
-has_added : (n : ℕ) (s : State) (d : Driver) → HasNot n s → d.number ≢ n → HasNot n (s ++ d ∷ [])
-has_added n [] d h o = (o, tt)
-has_added n (x ∷ s) d h o = (h.0, has_added n s d h.1 o)
-
--- the new driver has another key
-no_key_added : (key : List ℕ) (s : State) (d : Driver) → HasNoKey key s → d.key ≢ key → HasNoKey key (s ++ d ∷ [])
-no_key_added key [] d h o = (o, tt)
-no_key_added key (x ∷ s) d h o = (h.0, no_key_added key s d h.1 o)
-
--- the new driver has another holder
-no_holder_added : (holder : List ℕ) (s : State) (d : Driver) → IsHolderFree holder s → d.holder ≢ holder → IsHolderFree holder (s ++ d ∷ [])
-no_holder_added holder [] d h o = (o, tt)
-no_holder_added holder (x ∷ s) d h o = (h.0, no_holder_added holder s d h.1 o)
-
--- a number that isn't in the state with the new driver isn't in the state without them
-added_has : (n : ℕ) (s : State) (d : Driver) → HasNot n (s ++ d ∷ []) → HasNot n s
-added_has n [] d h = tt
-added_has n (x ∷ s) d h = (h.0, added_has n s d h.1)
-
--- drivers stay distinct
-distinct_added : (s : State) (d : Driver) → HasNot d.number s → HasNoKey d.key s → IsHolderFree d.holder s → AreDistinct s
-    → AreDistinct (s ++ d ∷ [])
-distinct_added [] d n k o h = (tt, tt, tt, tt)
-distinct_added (x ∷ s) d n k o h = (
-  has_added x.number s d h.0 (λ e. n.0 (sym e)),
-  no_key_added x.key s d h.1 (λ e. k.0 (sym e)),
-  no_holder_added x.holder s d h.2 (λ e. o.0 (sym e)),
-  distinct_added s d n.1 k.1 o.1 h.3,
-)
 
 -- the tables represent the other drivers, whose rows are as they were, and the new one
 each_added : (t : Tables) (row : DriverRow) (s : State) (d : Driver) → RowsRepresentEach t s → RowsRepresent (with_driver row t) d
@@ -163,22 +106,6 @@ keyed_other n key r d = ap (λ b. cond b (record r { secret = key }) r) (eq_not 
 -- no row changes except the driver's own
 keyed_same : (t : Tables) (n : ℕ) (key : List ℕ) (j : ℕ) → SameOfDriver j t (with_rekeyed n key t)
 keyed_same t n key j = record { downloads = refl; entries = refl; card_spans = refl; held = refl }
-
--- if the key isn't another driver's, it is free for the driver
-key_free : (n : ℕ) (key : List ℕ) (s : State) → AreDistinct s → is_another n (driver_with_key key s) ≡ false → IsKeyFreeFor n key s
-key_free n key [] h e = tt
-key_free n key (x ∷ s) h e = go (bytes_eq x.key key) refl e (key_free n key s h.3) where
-  own : (b : Bool) → (x.number == n) ≡ b → not b ≡ false → x.number ≡ n
-  own true o f = eq_true x.number n o
-  own false o f = cc
-
-  go : (b : Bool) → bytes_eq x.key key ≡ b → is_another n (cond b (Some x) (driver_with_key key s)) ≡ false
-      → (is_another n (driver_with_key key s) ≡ false → IsKeyFreeFor n key s) → IsKeyFreeFor n key (x ∷ s)
-  go true o f more = (
-    (λ other. absurd (other (own (x.number == n) refl f))),
-    nobody_has n key s (subst (λ (k : List ℕ). HasNoKey k s) (bytes_true x.key key o) h.1),
-  )
-  go false o f more = ((λ _. bytes_false x.key key o), more f)
 
 -- the tables with another key in the driver's row represent the state with that key
 pub rekeyed_is : (t : Tables) (s : State) (n : ℕ) (key : List ℕ) (d : Driver) → TablesRepresent t s → driver_of n s ≡ Some d

@@ -17,11 +17,12 @@ use Rattle.tacho_state.specs.State.{Entry, Driver, State, Held, AreFull, driver_
 use Rattle.tacho_state.proofs.DisjointLemmas.{disjoint_canonical}
 use Rattle.tacho_state.proofs.OrderLemmas.{kept_again}
 use Rattle.tacho_state.proofs.WithdrawLemmas.{withdrawn_held}
+use Rattle.tacho_state.proofs.EqualLemmas.{eq_not, eq_self, eq_true}
 use Rattle.tacho_tables.specs.declared.rows.StoredSpan.{StoredSpan}
 use Rattle.tacho_tables.specs.Rows.{DriverRow, EntryRow, SpanRow}
 use Rattle.tacho_tables.specs.Tables.{Tables, is_row_near, is_kept_near, span_of, entry_span_of, with_withdrawn}
 use Rattle.tacho_reading.specs.Standing.{IsMark, activity_number, numbered_mark, driver_columns, entry_row, rows_of_entries, driver_entry_rows, row_span, span_row, spans_of, stored_span, IsReadNear, IsKeptNear, RowsRepresent, TablesRepresent}
-use Rattle.tacho_reading.proofs.RowLemmas.{eq_self, eq_not, eq_true, added_own, added_other, added_marks, near_spans}
+use Rattle.tacho_reading.proofs.RowLemmas.{added_own, added_other, added_marks, near_spans}
 use Rattle.tacho_reading.proofs.NearRowLemmas.{permuted_gives}
 use Rattle.tacho_state.proofs.PutLemmas.{found_number}
 use Rattle.tacho_reading.proofs.StateLemmas.{SameOfDriver, found_of, put_is, rows_put}

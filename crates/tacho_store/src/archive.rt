@@ -19,8 +19,8 @@ use tacho_card::Part;
 use tacho_line::Line;
 use tacho_reading::fault::store_fault;
 use tacho_reading::reading::{
-    download, driver, drivers, entries, line, line_and_stretches, line_and_stretches_from_base,
-    line_within, name, report, stretches, who,
+    download, driver, drivers, entries, key, line, line_and_stretches,
+    line_and_stretches_from_base, line_within, name, report, stretches, who,
 };
 use tacho_rules::Report;
 use tacho_state::{
@@ -309,6 +309,10 @@ impl<S: Alter> Keeper for Archive<S> {
 
     fn name(&mut self, alloc: Global, driver: u32) -> Result<String, StoreFault> {
         name(&mut self.conn, driver)
+    }
+
+    fn key(&mut self, alloc: Global, driver: u32) -> Result<String, StoreFault> {
+        key(&mut self.conn, driver)
     }
 
     fn line(&mut self, alloc: Global, driver: u32) -> Result<Line, StoreFault> {
