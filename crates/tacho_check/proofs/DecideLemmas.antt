@@ -13,11 +13,11 @@ use Rattle.tacho_time.specs.declared.span.Activity.{Activity}
 use Rattle.tacho_time.specs.declared.span.Activity.TheVariants.{Rest, Available, Work, Drive}
 use Rattle.tacho_time.proofs.CanonicalLemmas.{moved_same}
 use Rattle.tacho_state.specs.State.{Download, given_spans}
-use Rattle.tacho_state.specs.Content.{FileTells}
+use Rattle.tacho_state.specs.Content.{AreRead, FileTells}
 use Rattle.tacho_state.specs.Disjoint.{Keeps}
 use Rattle.tacho_state.proofs.OrderLemmas.{disjoint_moved}
 use Rattle.tacho_tables.specs.Rows.{DownloadRow, span_columns, download_columns}
-use Rattle.tacho_reading.specs.Standing.{AreRead, mark_number, numbered_mark, rows_of_downloads, row_span, span_row}
+use Rattle.tacho_reading.specs.Standing.{mark_number, numbered_mark, rows_of_downloads, row_span, span_row}
 use Rattle.tacho_check.specs.declared.files.FileRow.{FileRow}
 use Rattle.tacho_check.specs.declared.wide.Wide.{Wide}
 use Rattle.tacho_check.specs.Wide.{wide_spans}

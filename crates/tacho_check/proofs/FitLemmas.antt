@@ -11,7 +11,8 @@ use Rattle.tacho_state.specs.State.{Download, Entry, given_spans, entered_spans,
 use Rattle.tacho_state.specs.Disjoint.{Keeps}
 use Rattle.tacho_state.proofs.DisjointLemmas.{disjoint_canonical, disjoint_agrees}
 use Rattle.tacho_tables.specs.Rows.{DriverRow, driver_row, span_columns, download_columns, entry_columns}
-use Rattle.tacho_reading.specs.Standing.{AreRead, driver_columns, rows_of_downloads, rows_of_entries, span_row}
+use Rattle.tacho_state.specs.Content.{AreRead}
+use Rattle.tacho_reading.specs.Standing.{driver_columns, rows_of_downloads, rows_of_entries, span_row}
 use Rattle.tacho_check.specs.declared.table.TableName.{TableName}
 use Rattle.tacho_check.specs.declared.table.TableName.TheVariants.{Drivers, Downloads, CardSpans, EntryRows, Held}
 use Rattle.tacho_check.specs.Check.{place}

@@ -10,12 +10,13 @@ use Rattle.sqlite.specs.declared.types.Value.TheVariants.{Int}
 use Rattle.sqlite.specs.Order.{Row, column}
 use Rattle.sqlite.specs.Tree.{Trees}
 use Rattle.sqlite_trees.proofs.ListLemmas.{filter-map, IsPermutation-same}
+use Rattle.tacho_state.specs.Distinct.{HasNot, AreDistinct}
 use Rattle.tacho_state.specs.State.{Driver, State, driver_of}
+use Rattle.tacho_state.proofs.EqualLemmas.{eq_false, eq_true}
 use Rattle.tacho_tables.specs.Schema.{Layout}
 use Rattle.tacho_tables.specs.Rows.{SpanRow, DownloadRow, EntryRow, DriverRow, span_columns, download_columns, entry_columns, driver_row}
 use Rattle.tacho_tables.specs.Tables.{Tables, has_number}
-use Rattle.tacho_reading.specs.Standing.{IsMark, mark_number, numbered_mark, row_span, span_row, spans_of, driver_columns, HasNot, AreDistinct, RowsRepresent, TablesRepresent}
-use Rattle.tacho_reading.proofs.RowLemmas.{eq_true, eq_false}
+use Rattle.tacho_reading.specs.Standing.{IsMark, mark_number, numbered_mark, row_span, span_row, spans_of, driver_columns, RowsRepresent, TablesRepresent}
 use Rattle.tacho_state.proofs.PutLemmas.{found_number}
 use Rattle.tacho_reading.proofs.StateLemmas.{found_of}
 use Rattle.tacho_reading.proofs.DriverRowLemmas.{no_number_row}

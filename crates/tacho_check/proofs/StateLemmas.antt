@@ -8,11 +8,12 @@ use Rattle.sqlite_trees.specs.Tree.{Trees}
 use Rattle.sqlite_trees.proofs.ListLemmas.{map-map, IsPermutation-same}
 use Rattle.sqlite_rules.specs.Lists.{Has}
 use Rattle.sqlite_rules.proofs.ListLemmas.{has_filtered, has_kept}
+use Rattle.tacho_state.specs.Distinct.{HasNot, HasNoKey, IsHolderFree, AreDistinct}
 use Rattle.tacho_state.specs.State.{State}
 use Rattle.tacho_tables.specs.Schema.{Layout}
 use Rattle.tacho_tables.specs.Schema as made
 use Rattle.tacho_tables.specs.Rows.{span_columns, download_columns, entry_columns, driver_row}
-use Rattle.tacho_reading.specs.Standing.{HasNot, HasNoKey, IsHolderFree, AreDistinct, Represents, driver_columns}
+use Rattle.tacho_reading.specs.Standing.{Represents, driver_columns}
 use Rattle.tacho_check.specs.declared.table.TableName.{TableName}
 use Rattle.tacho_check.specs.declared.table.TableName.TheVariants.{Drivers, Downloads, CardSpans, EntryRows, Held}
 use Rattle.tacho_check.specs.Check.{place, is_number, is_own, own_rows, stored_rows, IsSoundAt, IsReadable}

@@ -6,7 +6,8 @@ use Rattle.tacho_time.specs.Spans.{Gives, Conflicts}
 use Rattle.tacho_state.specs.State.{Download, Entry, given_spans, entered_spans, AreFull}
 use Rattle.tacho_state.specs.Disjoint.{Keeps}
 use Rattle.tacho_tables.specs.Rows.{span_columns, download_columns, entry_columns}
-use Rattle.tacho_reading.specs.Standing.{AreRead, rows_of_downloads, rows_of_entries, span_row}
+use Rattle.tacho_state.specs.Content.{AreRead}
+use Rattle.tacho_reading.specs.Standing.{rows_of_downloads, rows_of_entries, span_row}
 
 -- no minute has two marks
 abbrev pub Agrees : List Span → Type 0

@@ -8,7 +8,8 @@ use Rattle.tacho_state.specs.Disjoint.{Keeps}
 use Rattle.tacho_tables.specs.Schema.{Layout}
 use Rattle.tacho_tables.specs.Rows.{SpanRow, DownloadRow, EntryRow, span_columns, download_columns, entry_columns, driver_row}
 use Rattle.tacho_tables.specs.Tables.{Tables}
-use Rattle.tacho_reading.specs.Standing.{AreRead, driver_columns, rows_of_downloads, rows_of_entries, span_row}
+use Rattle.tacho_state.specs.Content.{AreRead}
+use Rattle.tacho_reading.specs.Standing.{driver_columns, rows_of_downloads, rows_of_entries, span_row}
 use Rattle.tacho_check.specs.declared.table.TableName.{TableName}
 use Rattle.tacho_check.specs.declared.table.TableName.TheVariants.{Drivers, Downloads, CardSpans, EntryRows, Held}
 use Rattle.tacho_check.specs.Check.{place, own_rows, stored_rows}

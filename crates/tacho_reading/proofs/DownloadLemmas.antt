@@ -5,10 +5,10 @@ use Rattle.std.proofs.lemmas.List.{append-nil}
 use Rattle.std.proofs.lemmas.List.Elements.{filter-append}
 use Rattle.tacho_state.specs.State.{Download, Driver, State, driver_of, download_from}
 use Rattle.tacho_state.specs.Steps.{file_of}
+use Rattle.tacho_state.proofs.EqualLemmas.{eq_not, eq_self, eq_true}
 use Rattle.tacho_tables.specs.Rows.{DownloadRow}
 use Rattle.tacho_tables.specs.Tables.{Tables, is_download}
 use Rattle.tacho_reading.specs.Standing.{TablesRepresent, rows_of_downloads, downloads_of}
-use Rattle.tacho_reading.proofs.RowLemmas.{eq_self, eq_not, eq_true}
 use Rattle.tacho_reading.proofs.DriverRowLemmas.{first_or_rest, none_there}
 use Rattle.tacho_state.proofs.PutLemmas.{found_number}
 use Rattle.tacho_reading.proofs.StateLemmas.{found_of}

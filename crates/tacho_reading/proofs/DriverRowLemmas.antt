@@ -1,14 +1,14 @@
 -- Drivers are found by tests of their rows.
-use Rattle.std.proofs.Common.{◌≡◌, ◌≢◌, ℕ, zero, suc, ◌<◌, ◌==◌, ◌⊎◌, inl, inr, ◌↔◌, Bool, true, false, cond, true≢false, List, [], ◌∷◌, Option, Some, None, length, map, filter, refl, sym, ap, ◌∙◌, subst, arith}
+use Rattle.std.proofs.Common.{◌≡◌, ◌≢◌, ℕ, zero, suc, ◌<◌, ◌==◌, ◌⊎◌, inl, inr, ◌↔◌, Bool, true, false, cond, List, [], ◌∷◌, Option, Some, None, length, map, filter, refl, sym, ap, ◌∙◌, subst, arith}
 use Rattle.std.specs.List.{Contains, slice_index_or}
 use Rattle.std.specs.Str.{bytes_eq}
-use Rattle.std.proofs.lemmas.Slice.Eq.{bytes_eq-Decides}
+use Rattle.tacho_state.specs.Distinct.{HasNot, HasNoKey, IsHolderFree, AreDistinct}
 use Rattle.tacho_state.specs.State.{Driver, State, driver_of, driver_with_key, holding}
+use Rattle.tacho_state.proofs.EqualLemmas.{bytes_not, bytes_true, eq_not, eq_self, eq_true}
+use Rattle.tacho_state.proofs.DistinctLemmas.{found_not}
 use Rattle.tacho_tables.specs.Rows.{DriverRow}
 use Rattle.tacho_tables.specs.Tables.{Tables, has_number, has_secret, has_holder}
-use Rattle.tacho_reading.specs.Standing.{driver_columns, HasNot, HasNoKey, IsHolderFree, AreDistinct, TablesRepresent}
-use Rattle.tacho_reading.proofs.RowLemmas.{eq_self, eq_true, eq_not}
-use Rattle.tacho_reading.proofs.StateLemmas.{found_not}
+use Rattle.tacho_reading.specs.Standing.{driver_columns, TablesRepresent}
 
 -- ---- elements of a list
 
@@ -85,25 +85,6 @@ by_key key (d ∷ s) = ap (λ (x : Option Driver). cond (bytes_eq d.key key) (So
 by_holder : (holder : List ℕ) (s : State) → first_passing (has_holder holder) s ≡ holding holder s
 by_holder holder [] = refl
 by_holder holder (d ∷ s) = ap (λ (x : Option Driver). cond (bytes_eq d.holder holder) (Some d) x) (by_holder holder s)
-
--- bytes that pass the test are equal
-pub bytes_true : (xs ys : List ℕ) → bytes_eq xs ys ≡ true → xs ≡ ys
-bytes_true xs ys e = (bytes_eq-Decides xs ys).0 e
-
--- bytes that don't pass it differ
-pub bytes_false : (xs ys : List ℕ) → bytes_eq xs ys ≡ false → xs ≢ ys
-bytes_false xs ys e f = true≢false (sym ((bytes_eq-Decides xs ys).1 f) ∙ e)
-
--- bytes are equal to themselves
-pub bytes_eq_self : (xs : List ℕ) → bytes_eq xs xs ≡ true
-bytes_eq_self xs = (bytes_eq-Decides xs xs).1 refl
-
--- bytes that differ don't pass it
-pub bytes_not : (xs ys : List ℕ) → xs ≢ ys → bytes_eq xs ys ≡ false
-bytes_not xs ys d = go (bytes_eq xs ys) refl where
-  go : (b : Bool) → bytes_eq xs ys ≡ b → b ≡ false
-  go true e = absurd (d (bytes_true xs ys e))
-  go false e = refl
 
 -- ---- drivers are distinct
 

@@ -2,10 +2,10 @@
 use Rattle.std.proofs.Common.{◌≡◌, ℕ, ◌+◌, ◌<◌, ◌==◌, ◌&&◌, ◌⊎◌, inl, inr, ◌↔◌, Bool, true, false, cond, List, [], ◌∷◌, Some, None, filter, refl, sym, ap, ◌∙◌, subst, arith}
 use Rattle.std.specs.List.{Contains}
 use Rattle.tacho_state.specs.State.{Entry, Driver, State, driver_of, entry_from}
+use Rattle.tacho_state.proofs.EqualLemmas.{eq_not, eq_true}
 use Rattle.tacho_tables.specs.Rows.{EntryRow}
 use Rattle.tacho_tables.specs.Tables.{Tables, is_entry}
 use Rattle.tacho_reading.specs.Standing.{entry_row, rows_of_entries, driver_entry_rows, TablesRepresent}
-use Rattle.tacho_reading.proofs.RowLemmas.{eq_not, eq_true}
 use Rattle.tacho_reading.proofs.DriverRowLemmas.{first_or_rest, none_there}
 use Rattle.tacho_state.proofs.PutLemmas.{found_number}
 use Rattle.tacho_reading.proofs.StateLemmas.{found_of}

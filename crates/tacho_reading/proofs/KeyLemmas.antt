@@ -1,13 +1,13 @@
 -- Whose a key is after a change of a driver's key.
-use Rattle.std.proofs.Common.{◌≡◌, ◌≢◌, ◌∙◌, ◌==◌, ℕ, Bool, true, false, cond, not, List, [], ◌∷◌, Option, None, Some, Result, Ok, Err, bytes_eq, refl, sym, ap, subst}
+use Rattle.std.proofs.Common.{◌≡◌, ◌≢◌, ◌∙◌, ◌==◌, ℕ, Bool, true, false, cond, not, List, [], ◌∷◌, Option, None, Some, Ok, bytes_eq, refl, sym, ap, subst}
 use Rattle.std.specs.Prelude.{option_map}
+use Rattle.tacho_state.specs.Distinct.{AreDistinct, HasNoKey}
 use Rattle.tacho_state.specs.State.{Driver, State, driver_of, driver_with_key, put, with_key}
 use Rattle.tacho_state.specs.Steps.{is_another, owner, own_turn, refusal_turn, rekey_own, rekey_step}
 use Rattle.tacho_state.specs.declared.fault.StoreFault.TheVariants.{KeyTaken}
-use Rattle.tacho_reading.specs.Standing.{AreDistinct, HasNoKey}
-use Rattle.tacho_reading.proofs.DriverRowLemmas.{bytes_not, bytes_eq_self}
+use Rattle.tacho_state.proofs.EqualLemmas.{bytes_eq_self, bytes_not}
+use Rattle.tacho_state.proofs.DistinctLemmas.{found_key}
 use Rattle.tacho_state.proofs.PutLemmas.{found_number}
-use Rattle.tacho_reading.proofs.StateLemmas.{found_key}
 
 -- a key that nobody has is found of nobody
 not_found : (key : List ℕ) (s : State) → HasNoKey key s → driver_with_key key s ≡ None

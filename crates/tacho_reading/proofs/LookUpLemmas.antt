@@ -41,6 +41,18 @@ number_found db s n (Some it) (t, stand, is) h =
       },
     )
 
+-- a look-up by number finds the driver's key
+pub secret_found : {A : Type 0} (bytes : A → List ℕ) (db : Trees) (s : State) (n : ℕ) (found : Option A) → Represents db s
+    → ((a : Tables) → HasTables db a → MatchOption found (filter (has_number n) a.drivers ≡ [])
+    (λ it. (r : DriverRow) × Contains (filter (has_number n) a.drivers) r × (bytes it ≡ r.secret)))
+    → MatchOption found (driver_of n s ≡ None) (λ it. (d : Driver) × (driver_of n s ≡ Some d) × (bytes it ≡ d.key))
+unfolding Represents
+secret_found bytes db s n None (t, stand, is) h = (number_none t s n is).0 (h t stand)
+secret_found bytes db s n (Some it) (t, stand, is) h =
+    let found = h t stand in
+    let d = number_some t s n found.0 is found.1 in
+    (d.0, d.1, found.2 ∙ ap (λ (r : DriverRow). r.secret) d.2)
+
 -- a look-up by key finds the driver's number
 pub key_found : (db : Trees) (s : State) (key : List ℕ) (found : Option ℕ) → Represents db s
     → ((a : Tables) → HasTables db a → MatchOption found (filter (has_secret key) a.drivers ≡ [])

@@ -1,11 +1,12 @@
 -- What readings answer, from what look-ups find.
 use Rattle.std.proofs.Common.{◌≡◌, ◌∙◌, ℕ, List, [], filter, Option, Some, None, Result, Ok, Err, refl, sym, ap}
-use Rattle.std.specs.Prelude.{MatchOption, Contains}
+use Rattle.std.specs.Prelude.{MatchOption, Contains, ok_or}
 use Rattle.sqlite.specs.Tree.{Trees}
 use Rattle.tacho_state.specs.declared.fault.StoreFault.{StoreFault}
 use Rattle.tacho_state.specs.declared.fault.StoreFault.TheVariants.{UnknownDriver, UnknownDownload}
+use Rattle.tacho_state.specs.Acts.{Answers}
 use Rattle.tacho_state.specs.State.{Driver, State, driver_of, driver_with_key, download_from}
-use Rattle.tacho_state.specs.Steps.{reading_of, owner, file_of, file_reading}
+use Rattle.tacho_state.specs.Steps.{reading_of, owner, key_reading, file_of, file_reading}
 use Rattle.tacho_tables.specs.Rows.{DownloadRow}
 use Rattle.tacho_tables.specs.declared.rows.StoredFile.{StoredFile}
 use Rattle.tacho_tables.specs.Tables.{Tables, HasTables, is_download}
@@ -16,6 +17,13 @@ use Rattle.tacho_reading.proofs.DownloadLemmas.{download_none, download_some}
 pub nobody : {A : Type 0} (n : ℕ) (s : State) (f : Driver → Result A StoreFault) → driver_of n s ≡ None
     → reading_of f (driver_of n s) ≡ Err UnknownDriver
 nobody n s f none = ap (reading_of f) none
+
+-- S4, or the driver's key
+pub key_told : {A : Type 0} (bytes : A → List ℕ) (n : ℕ) (s : State) (found : Option A)
+    → MatchOption found (driver_of n s ≡ None) (λ it. (d : Driver) × (driver_of n s ≡ Some d) × (bytes it ≡ d.key))
+    → Answers bytes (ok_or found UnknownDriver) (key_reading n s)
+key_told bytes n s None none = nobody n s (λ d. Ok d.key) none
+key_told bytes n s (Some it) (d, is, key) = rw (is, key) refl
 
 -- the number of the driver with this key, if there is one
 pub owner_told : (key : List ℕ) (s : State) (found : Option ℕ)

@@ -1,7 +1,6 @@
 -- Rows of a driver, and the spans that they represent.
-use Rattle.std.proofs.Common.{◌≡◌, ◌≢◌, ℕ, ◌==◌, ◌&&◌, Bool, true, false, cond, List, [], ◌∷◌, ◌++◌, map, filter, refl, sym, ap, ◌∙◌, arith, lit<}
+use Rattle.std.proofs.Common.{◌≡◌, ◌≢◌, ℕ, ◌==◌, ◌&&◌, Bool, true, false, cond, List, [], ◌∷◌, ◌++◌, map, filter, refl, sym, ap, ◌∙◌, lit<}
 use Rattle.std.specs.List.{All, slice_index_or}
-use Rattle.std.proofs.lemmas.Bool.Decides.{nat_tests}
 use Rattle.std.proofs.lemmas.List.{append-nil}
 use Rattle.std.proofs.lemmas.List.Elements.{All-append, All-map}
 use Rattle.tacho_time.specs.declared.span.Span.{Span}
@@ -9,30 +8,12 @@ use Rattle.tacho_time.specs.declared.span.Mark.{Mark}
 use Rattle.tacho_time.specs.declared.span.Activity.TheVariants.{Rest, Available, Work, Drive}
 use Rattle.tacho_time.specs.declared.span.Activity.{Activity}
 use Rattle.tacho_state.specs.Disjoint as disjoint
+use Rattle.tacho_state.proofs.EqualLemmas.{eq_not, eq_self}
 use Rattle.tacho_tables.specs.Rows.{SpanRow}
 use Rattle.tacho_tables.specs.Tables.{is_row_near, span_of}
 use Rattle.tacho_reading.specs.Standing.{IsMark, mark_number, numbered_mark, row_span, span_row, spans_of, stored_span}
 
 -- ---- numbers
-
--- a number equals itself
-pub eq_self : (n : ℕ) → (n == n) ≡ true
-eq_self n = grind (arith, nat_tests)
-
--- different numbers fail the test
-pub eq_not : (j n : ℕ) → j ≢ n → (j == n) ≡ false
-eq_not j n d = go (j == n) refl where
-  go : (b : Bool) → (j == n) ≡ b → b ≡ false
-  go true e = let f : j ≡ n = grind (arith, nat_tests) in absurd (d f)
-  go false e = refl
-
--- numbers that pass the test are equal
-pub eq_true : (j n : ℕ) → (j == n) ≡ true → j ≡ n
-eq_true j n e = grind (arith, nat_tests)
-
--- numbers that don't pass the test differ
-pub eq_false : (j n : ℕ) → (j == n) ≡ false → j ≢ n
-eq_false j n e f = let g : (j == n) ≡ true = grind (arith, nat_tests) in cc
 
 -- ---- marks
 

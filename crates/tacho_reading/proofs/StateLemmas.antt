@@ -1,13 +1,16 @@
 -- One driver of a state changes, and the rows of that driver change too.
 use Rattle.std.proofs.Common.{◌≡◌, ◌≢◌, ℕ, ◌==◌, Bool, true, false, cond, List, [], ◌∷◌, Some, map, refl, sym, ap, ◌∙◌, subst}
+use Rattle.std.specs.List.{AllByRecursion}
 use Rattle.tacho_time.specs.declared.span.Span.{Span}
+use Rattle.tacho_state.specs.Content.{AreRead}
+use Rattle.tacho_state.specs.Distinct.{HasNot, AreDistinct}
 use Rattle.tacho_state.specs.Disjoint.{Keeps}
 use Rattle.tacho_state.specs.State.{Driver, State, IsDownloaded, Held, driver_of, put}
-use Rattle.tacho_state.proofs.PutLemmas.{found_number}
+use Rattle.tacho_state.proofs.EqualLemmas.{eq_false, eq_true}
+use Rattle.tacho_state.proofs.DistinctLemmas.{IsKeyFreeFor, distinct_put, found_head, found_not, found_tail, own_key, put_has}
 use Rattle.tacho_tables.specs.Rows.{DriverRow}
 use Rattle.tacho_tables.specs.Tables.{Tables}
-use Rattle.tacho_reading.specs.Standing.{driver_columns, downloads_of, driver_entry_rows, spans_of, RowsRepresent, RowsRepresentEach, HasNot, HasNoKey, IsHolderFree, AreDistinct, AreKnown, AreMarked, TablesRepresent}
-use Rattle.tacho_reading.proofs.RowLemmas.{eq_true, eq_false}
+use Rattle.tacho_reading.specs.Standing.{driver_columns, downloads_of, driver_entry_rows, spans_of, RowsRepresent, RowsRepresentEach, AreKnown, AreMarked, TablesRepresent}
 
 -- both tables have the same rows of this driver
 pub record SameOfDriver (n : ℕ) (t u : Tables) : Type 0 where
@@ -40,121 +43,7 @@ found_of t n (x ∷ s) d e h = go (x.number == n) e (λ f. found_of t n s d f h.
   go true f more = let same : x ≡ d = cc in subst (RowsRepresent t) same h.0
   go false f more = more f
 
--- if the first driver has the number, it is the driver who is found
-found_head : (n : ℕ) (x old : Driver) (s : State) → driver_of n (x ∷ s) ≡ Some old → (x.number == n) ≡ true → x ≡ old
-found_head n x old s e t = let same : Some x ≡ Some old = sym (ap (λ b. cond b (Some x) (driver_of n s)) t) ∙ e in cc
-
--- if the first driver has another number, the search continues
-found_tail : (n : ℕ) (x old : Driver) (s : State) → driver_of n (x ∷ s) ≡ Some old → (x.number == n) ≡ false → driver_of n s ≡ Some old
-found_tail n x old s e t = sym (ap (λ b. cond b (Some x) (driver_of n s)) t) ∙ e
-
--- a number by which a driver is found is in the state
-pub found_not : (n : ℕ) (s : State) (d : Driver) → driver_of n s ≡ Some d → HasNot n s → ⊥
-found_not n [] d e h = cc
-found_not n (x ∷ s) d e h = go (x.number == n) refl e (λ f. found_not n s d f h.1) where
-  go : (b : Bool) → (x.number == n) ≡ b → cond b (Some x) (driver_of n s) ≡ Some d → (driver_of n s ≡ Some d → ⊥) → ⊥
-  go true o f more = h.0 (eq_true x.number n o)
-  go false o f more = more f
-
 -- ---- a driver is put in place of another
-
--- no new number is added
-has_put : (n : ℕ) (d : Driver) (s : State) → HasNot n s → HasNot n (put d s)
-has_put n d [] h = tt
-has_put n d (x ∷ s) h = go (x.number == d.number) refl (has_put n d s h.1) where
-  go : (b : Bool) → (x.number == d.number) ≡ b → HasNot n (put d s) → HasNot n (cond b (d ∷ s) (x ∷ put d s))
-  go true o more = ((λ e. h.0 (eq_true x.number d.number o ∙ e)), h.1)
-  go false o more = (h.0, more)
-
--- no number is removed
-put_has : (n : ℕ) (d : Driver) (s : State) → HasNot n (put d s) → HasNot n s
-put_has n d [] h = tt
-put_has n d (x ∷ s) h = go (x.number == d.number) refl h (put_has n d s) where
-  go : (b : Bool) → (x.number == d.number) ≡ b → HasNot n (cond b (d ∷ s) (x ∷ put d s)) → (HasNot n (put d s) → HasNot n s)
-      → HasNot n (x ∷ s)
-  go true o w more = ((λ e. w.0 (sym (eq_true x.number d.number o) ∙ e)), w.1)
-  go false o w more = (w.0, more w.1)
-
--- no driver with another number has the key
-abbrev pub IsKeyFreeFor : ℕ → List ℕ → State → Type 0
-IsKeyFreeFor n key [] = Unit {0}
-IsKeyFreeFor n key (x ∷ s) = (x.number ≢ n → x.key ≢ key) × IsKeyFreeFor n key s
-
--- a key that nobody has is free for each driver
-pub nobody_has : (n : ℕ) (key : List ℕ) (s : State) → HasNoKey key s → IsKeyFreeFor n key s
-nobody_has n key [] h = tt
-nobody_has n key (x ∷ s) h = ((λ o. h.0), nobody_has n key s h.1)
-
--- a key that is free for a driver who isn't in the state is nobody's
-has_nobody : (n : ℕ) (key : List ℕ) (s : State) → HasNot n s → IsKeyFreeFor n key s → HasNoKey key s
-has_nobody n key [] o h = tt
-has_nobody n key (x ∷ s) o h = (h.0 o.0, has_nobody n key s o.1 h.1)
-
--- a driver who is found has a key that somebody has
-pub found_key : (n : ℕ) (key : List ℕ) (s : State) (d : Driver) → driver_of n s ≡ Some d → HasNoKey key s → d.key ≢ key
-found_key n key [] d e h = cc
-found_key n key (x ∷ s) d e h = go (x.number == n) e (λ w. found_key n key s d w h.1) where
-  go : (b : Bool) → cond b (Some x) (driver_of n s) ≡ Some d → (driver_of n s ≡ Some d → d.key ≢ key) → d.key ≢ key
-  go true f more = let same : x ≡ d = cc in subst (λ (y : Driver). y.key ≢ key) same h.0
-  go false f more = more f
-
--- a driver's own key is free for them
-own_key : (n : ℕ) (s : State) (d : Driver) → driver_of n s ≡ Some d → AreDistinct s → IsKeyFreeFor n d.key s
-own_key n [] d e h = tt
-own_key n (x ∷ s) d e h = go (x.number == n) refl (λ w. own_key n s d w h.3) where
-  go : (b : Bool) → (x.number == n) ≡ b → (driver_of n s ≡ Some d → IsKeyFreeFor n d.key s) → IsKeyFreeFor n d.key (x ∷ s)
-  go true o more = (
-    (λ other. absurd (other (eq_true x.number n o))),
-    nobody_has n d.key s (subst (λ (y : Driver). HasNoKey y.key s) (found_head n x d s e o) h.1),
-  )
-  go false o more =
-      let tail = found_tail n x d s e o in
-      ((λ other same. found_key n x.key s d tail h.1 (sym same)), more tail)
-
--- no key is added but the new driver's
-no_key_put : (key : List ℕ) (d : Driver) (s : State) → d.key ≢ key → HasNoKey key s → HasNoKey key (put d s)
-no_key_put key d [] o h = tt
-no_key_put key d (x ∷ s) o h = go (x.number == d.number) (no_key_put key d s o h.1) where
-  go : (b : Bool) → HasNoKey key (put d s) → HasNoKey key (cond b (d ∷ s) (x ∷ put d s))
-  go true more = (o, h.1)
-  go false more = (h.0, more)
-
--- no new holder is added
-no_holder_put : (holder : List ℕ) (n : ℕ) (d old : Driver) (s : State) → driver_of n s ≡ Some old → d.number ≡ n → d.holder ≡ old.holder
-    → IsHolderFree holder s → IsHolderFree holder (put d s)
-no_holder_put holder n d old [] e k same h = tt
-no_holder_put holder n d old (x ∷ s) e k same h = go (x.number == d.number) refl (λ w. no_holder_put holder n d old s w k same h.1) where
-  go : (b : Bool) → (x.number == d.number) ≡ b → (driver_of n s ≡ Some old → IsHolderFree holder (put d s))
-      → IsHolderFree holder (cond b (d ∷ s) (x ∷ put d s))
-  go true o more =
-      let here : (x.number == n) ≡ true = subst (λ (j : ℕ). (x.number == j) ≡ true) k o in
-      ((λ g. h.0 (ap (λ (y : Driver). y.holder) (found_head n x old s e here) ∙ sym same ∙ g)), h.1)
-  go false o more = (h.0, more (found_tail n x old s e (subst (λ (j : ℕ). (x.number == j) ≡ false) k o)))
-
--- drivers stay distinct if nobody else has the new driver's key
-distinct_put : (n : ℕ) (d old : Driver) (s : State) → driver_of n s ≡ Some old → d.number ≡ n → IsKeyFreeFor n d.key s
-    → d.holder ≡ old.holder → AreDistinct s → AreDistinct (put d s)
-distinct_put n d old [] e k free same h = tt
-distinct_put n d old (x ∷ s) e k free same h =
-    go (x.number == d.number) refl (λ w. distinct_put n d old s w k free.1 same h.3) where
-      go : (b : Bool) → (x.number == d.number) ≡ b → (driver_of n s ≡ Some old → AreDistinct (put d s))
-          → AreDistinct (cond b (d ∷ s) (x ∷ put d s))
-      go true o more =
-          let is = eq_true x.number d.number o in
-          let head = found_head n x old s e (subst (λ (j : ℕ). (x.number == j) ≡ true) k o) in (
-            subst (λ (j : ℕ). HasNot j s) is h.0,
-            has_nobody n d.key s (subst (λ (j : ℕ). HasNot j s) (is ∙ k) h.0) free.1,
-            subst (λ (j : List ℕ). IsHolderFree j s) (ap (λ (y : Driver). y.holder) head ∙ sym same) h.2,
-            h.3,
-          )
-      go false o more =
-          let there : (x.number == n) ≡ false = subst (λ (j : ℕ). (x.number == j) ≡ false) k o in
-          let tail = found_tail n x old s e there in (
-            has_put x.number d s h.0,
-            no_key_put x.key d s (λ key. free.0 (eq_false x.number n there) (sym key)) h.1,
-            no_holder_put x.holder n d old s tail k same h.2,
-            more tail,
-          )
 
 -- the tables represent each driver
 each_put : (t u : Tables) (n : ℕ) (d : Driver) (s : State) → d.number ≡ n → AreDistinct s → RowsRepresentEach t s → RowsRepresent u d
@@ -230,3 +119,8 @@ rows_put f n d old (x ∷ s) e k u r h = go (x.number == d.number) refl (λ w. r
       let there : (x.number == n) ≡ false = subst (λ (j : ℕ). (x.number == j) ≡ false) k o in
       ap (λ (y : DriverRow). y ∷ map f (map driver_columns s)) (h (driver_columns x) (eq_false x.number n there))
       ∙ ap (λ (y : List DriverRow). driver_columns x ∷ y) (more (found_tail n x old s e there))
+
+-- the card files of each driver are read
+pub files_read : (t : Tables) (s : State) → RowsRepresentEach t s → AllByRecursion (λ (d : Driver). AreRead d.downloads) s
+files_read t [] each = tt
+files_read t (d ∷ s) each = (each.0.read, files_read t s each.1)

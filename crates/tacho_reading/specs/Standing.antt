@@ -1,17 +1,17 @@
 -- Trusted in part: What the archive's tables represent: rows by driver, and the state of all drivers.
-use Rattle.std.specs.Prelude.{◌≡◌, ◌≢◌, ℕ, ◌+◌, ◌==◌, ◌<◌, ◌≤◌, ◌⊎◌, nat_lt, All, true, false, List, [], ◌∷◌, length, map, filter, not, IsPermutation, Ok, if◌then◌else◌}
+use Rattle.std.specs.Prelude.{◌≡◌, ℕ, ◌+◌, ◌==◌, ◌<◌, ◌≤◌, ◌⊎◌, nat_lt, All, true, false, List, [], ◌∷◌, length, map, filter, not, IsPermutation, Ok, if◌then◌else◌}
 use Rattle.sqlite.specs.Tree.{Trees}
 use Rattle.tacho_time.specs.declared.span.Span.{Span}
 use Rattle.tacho_time.specs.declared.span.Mark.{Mark}
 use Rattle.tacho_time.specs.declared.span.Activity.{Activity}
 use Rattle.tacho_time.specs.declared.span.Activity.TheVariants.{Rest, Available, Work, Drive}
 use Rattle.tacho_time.specs.Spans.{Gives, IsFirstConflict}
-use Rattle.tacho_card.specs.declared.file.Part.{Part}
 use Rattle.tacho_state.specs.declared.entry.Entry.{Entry as Listed}
+use Rattle.tacho_state.specs.Distinct.{AreDistinct, HasNot}
 use Rattle.tacho_state.specs.Limits.{IsName, IsNote}
 use Rattle.tacho_state.specs.State.{Download, Entry, Driver, State, IsDownloaded, Held, AreFull, driver_of}
 use Rattle.tacho_state.specs.Disjoint.{Keeps}
-use Rattle.tacho_state.specs.Content.{FileTells, part_number}
+use Rattle.tacho_state.specs.Content.{AreRead}
 use Rattle.tacho_state.specs.Summaries.{Summary}
 use Rattle.tacho_tables.specs.Rows.{SpanRow, DownloadRow, EntryRow, DriverRow}
 use Rattle.tacho_tables.specs.declared.rows.StoredSpan.{StoredSpan}
@@ -88,12 +88,6 @@ driver_entry_rows n rows = filter (λ r. r.driver == n) rows
 
 -- ---- what the tables represent
 
--- each download's spans are what its file gives for its part
-abbrev pub AreRead : List Download → Type 0
-AreRead [] = Unit {0}
-AreRead (d ∷ ds) =
-    ((part : Part) × (holder : List ℕ) × (part_number part ≡ d.part) × FileTells part d.file (Ok (record { holder = holder; spans = d.spans }))) × AreRead ds
-
 -- the rows of one driver: `card_spans` give exactly what the driver's downloads give, and `held` exactly what the driver holds, each in
 -- disjoint rows
 pub record RowsRepresent (t : Tables) (d : Driver) : Type 0 where
@@ -107,24 +101,6 @@ pub record RowsRepresent (t : Tables) (d : Driver) : Type 0 where
 abbrev pub RowsRepresentEach : Tables → State → Type 0
 RowsRepresentEach t [] = Unit {0}
 RowsRepresentEach t (d ∷ s) = RowsRepresent t d × RowsRepresentEach t s
-
--- no driver of the state has this number, this key, or this holder
-abbrev pub HasNot : ℕ → State → Type 0
-HasNot n [] = Unit {0}
-HasNot n (d ∷ s) = (d.number ≢ n) × HasNot n s
-
-abbrev pub HasNoKey : List ℕ → State → Type 0
-HasNoKey key [] = Unit {0}
-HasNoKey key (d ∷ s) = (d.key ≢ key) × HasNoKey key s
-
-abbrev pub IsHolderFree : List ℕ → State → Type 0
-IsHolderFree holder [] = Unit {0}
-IsHolderFree holder (d ∷ s) = (d.holder ≢ holder) × IsHolderFree holder s
-
--- no two drivers have the same number, the same key or the same holder
-abbrev pub AreDistinct : State → Type 0
-AreDistinct [] = Unit {0}
-AreDistinct (d ∷ s) = HasNot d.number s × HasNoKey d.key s × IsHolderFree d.holder s × AreDistinct s
 
 -- each row belongs to a driver of the state
 pub record AreKnown (t : Tables) (s : State) : Type 0 where

@@ -2,16 +2,19 @@
 //! variables.
 
 ghost use Rattle.std.specs.Prelude.{◌≡◌, ◌≢◌, ◌↔◌, ℕ, List, [], None, Some, Ok, map, filter, Contains};
+ghost use Rattle.std.specs.List.{AllByRecursion};
 ghost use Rattle.sqlite.specs.Tree.{Trees};
 ghost use Rattle.tacho_time.specs.Spans.{Gives, IsCanonicalOf};
 ghost use Rattle.tacho_time.specs.declared.span.Span.{Span};
+ghost use Rattle.tacho_state.specs.Content.{AreRead};
+ghost use Rattle.tacho_state.specs.Distinct.{AreDistinct};
 ghost use Rattle.tacho_state.specs.Disjoint.{Keeps, near};
 ghost use Rattle.tacho_state.specs.State.{Driver, Entry, State, IsDownloaded, Held, driver_of, driver_with_key, holding, download_from, entry_from};
 ghost use Rattle.tacho_state.specs.Steps.{file_of, owner, rekey_step};
 ghost use Rattle.tacho_tables.specs.declared.rows.StoredSpan.{StoredSpan as StoredValue};
 ghost use Rattle.tacho_tables.specs.Rows.{DriverRow, DownloadRow, EntryRow, SpanRow};
 ghost use Rattle.tacho_tables.specs.Tables.{Tables, HasTables, has_number, has_secret, has_holder, is_download, is_entry, is_entry_of};
-ghost use Rattle.tacho_reading.specs.Standing.{AreDistinct, TablesRepresent, SameRows, spans_of, driver_columns, entry_row, rows_of_entries, stored_span, IsReadNear};
+ghost use Rattle.tacho_reading.specs.Standing.{TablesRepresent, SameRows, spans_of, driver_columns, entry_row, rows_of_entries, stored_span, IsReadNear};
 
 /// Stored rows represent lists of rows in any order.
 pub fn any_order()
@@ -43,6 +46,12 @@ pub fn holders_are_found()
     ensures some { (t : Tables) (s : State) (holder : List ℕ) (row : DriverRow) → TablesRepresent t s
         → Contains (filter (has_holder holder) t.drivers) row
         → (d : Driver) × (holding holder s ≡ Some d) × (driver_of d.number s ≡ Some d) × (row ≡ driver_columns d) }
+{}
+
+/// In the state that tables represent no two drivers are alike, and the spans of each card file are what the file gives.
+pub fn states_are_read()
+    ensures distinct { (t : Tables) (s : State) → TablesRepresent t s → AreDistinct s }
+    ensures files { (t : Tables) (s : State) → TablesRepresent t s → AllByRecursion (λ (d : Driver). AreRead d.downloads) s }
 {}
 
 /// A driver's rows keep what the driver's downloads give, and what the driver holds.

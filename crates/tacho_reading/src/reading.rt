@@ -5,7 +5,7 @@ ghost use Rattle.tacho_line.specs.Line.{mark_at};
 ghost use Rattle.tacho_law.specs.Limits.{latest};
 ghost use Rattle.tacho_law.specs.Line.{IsBase};
 ghost use Rattle.tacho_state.specs.State.{State};
-ghost use Rattle.tacho_state.specs.Steps.{owner, name_reading, line_reading, entries_reading, file_reading, report_reading};
+ghost use Rattle.tacho_state.specs.Steps.{owner, name_reading, key_reading, line_reading, entries_reading, file_reading, report_reading};
 ghost use Rattle.tacho_state.specs.Reported.{AreStretchesOf, IsHeldWithin, IsHeldFromBase, IsDriverReport};
 ghost use Rattle.tacho_stretches.specs.Stretches.{judged_of};
 ghost use Rattle.tacho_state.specs.Summaries.{AreSummaries, driver_reading, told_summary};
@@ -112,6 +112,32 @@ pub fn driver<S: Alter>(conn: &mut Connection<S>, driver: u32) -> Result<DriverS
     let _settled = conn.is_autocommit();
     let mut tx = conn.transaction();
     let found = driver_in(&mut tx, driver);
+    tx.rollback();
+    match opening::ask(conn) {
+        Ok(()) => found,
+        Err(fault) => Err(store_fault(fault)),
+    }
+}
+
+/// Reads a driver's key, within a transaction: S4.
+fn key_in<S: Alter>(tx: &mut Transaction<'_, S>, driver: u32) -> Result<String, StoreFault>
+    ensures { Tells S.Store tx.old.conn tx.new.conn result
+        (λ _ s. Answers (λ key. string_bytes key) result (key_reading driver s)) }
+{
+    let found = drivers::secret_of(tx, driver).map_err(store_fault)?;
+    found.ok_or(StoreFault::UnknownDriver)
+}
+
+/// Reads a driver's key: S4.
+pub fn key<S: Alter>(conn: &mut Connection<S>, driver: u32) -> Result<String, StoreFault>
+    requires { conn.old.in_transaction ≡ false }
+    ensures autocommit { conn.new.in_transaction ≡ false }
+    ensures reads { ReadsOn S.Store (λ key. string_bytes key) conn.old conn.new result (key_reading driver) }
+{
+    // For the proof alone: nothing is pending, so what is seen is what was committed.
+    let _settled = conn.is_autocommit();
+    let mut tx = conn.transaction();
+    let found = key_in(&mut tx, driver);
     tx.rollback();
     match opening::ask(conn) {
         Ok(()) => found,

@@ -198,6 +198,13 @@ impl Row {
         String::from_str(alloc, &self.name)
     }
 
+    /// Makes a copy of the driver's key.
+    pub(crate) fn copy_of_key(&self, alloc: Global) -> Result<String, AllocError>
+        ensures { IfOk result (λ key. string_bytes key ≡ self.now.key) }
+    {
+        String::from_str(alloc, &self.key)
+    }
+
     /// Returns what is listed of the driver.
     pub(crate) fn summary(&self, alloc: Global) -> Result<DriverSummary, AllocError>
         ensures { IfOk result (λ summary. told_summary summary ≡ summary_of self.now) }

@@ -5,7 +5,7 @@ ghost use Rattle.tacho_line.specs.Line.{mark_at};
 ghost use Rattle.tacho_state.specs.State.{driver_of, driver_with_key, holding};
 ghost use Rattle.tacho_state.specs.Content.{FileTells, part_number};
 ghost use Rattle.tacho_state.specs.Batch.{IsBatch, batch_of};
-ghost use Rattle.tacho_state.specs.Steps.{Content, register_step, import_step, enter_step, withdraw_range_step, rebase_step, rekey_step, rename_step, is_another, refusal_turn, owner, name_reading, line_reading, entries_reading, file_reading, report_reading, known_driver};
+ghost use Rattle.tacho_state.specs.Steps.{Content, register_step, import_step, enter_step, withdraw_range_step, rebase_step, rekey_step, rename_step, is_another, refusal_turn, owner, name_reading, key_reading, line_reading, entries_reading, file_reading, report_reading, known_driver};
 ghost use Rattle.tacho_state.specs.Reported.{AreStretchesOf, IsHeldWithin, IsDriverReport};
 ghost use Rattle.tacho_stretches.specs.Stretches.{judged_of};
 ghost use Rattle.tacho_state.specs.Files.{files_reading, told_file};
@@ -233,6 +233,19 @@ impl Shelf {
         };
         match self.drivers[place].copy_of_name(alloc) {
             Ok(name) => Ok(name),
+            Err(_) => Err(StoreFault::Memory),
+        }
+    }
+
+    /// Returns the key of a driver: S4.
+    fn key_of(&self, alloc: Global, driver: u32) -> Result<String, StoreFault>
+        ensures { Answers (λ key. string_bytes key) result (key_reading driver self.now) }
+    {
+        let Some(place) = place_of(&self.drivers, driver) else {
+            return Err(StoreFault::UnknownDriver);
+        };
+        match self.drivers[place].copy_of_key(alloc) {
+            Ok(key) => Ok(key),
             Err(_) => Err(StoreFault::Memory),
         }
     }
@@ -488,6 +501,10 @@ impl Keeper for Shelf {
 
     fn name(&mut self, alloc: Global, driver: u32) -> Result<String, StoreFault> {
         self.name_of(alloc, driver)
+    }
+
+    fn key(&mut self, alloc: Global, driver: u32) -> Result<String, StoreFault> {
+        self.key_of(alloc, driver)
     }
 
     fn line(&mut self, alloc: Global, driver: u32) -> Result<Line, StoreFault> {

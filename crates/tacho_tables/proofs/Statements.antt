@@ -210,6 +210,10 @@ by_number_text = codes "SELECT driver, holder, base, name, downloads, entries FR
 abbrev pub drivers_text : List ℕ
 drivers_text = codes "SELECT driver, holder, base, name, downloads, entries FROM drivers ORDER BY driver"
 
+-- the SQL that reads a driver's key
+abbrev pub secret_text : List ℕ
+secret_text = codes "SELECT secret FROM drivers WHERE driver = ?1"
+
 -- the SQL that reads a driver's number by key
 abbrev pub by_secret_text : List ℕ
 by_secret_text = codes "SELECT driver FROM drivers WHERE secret = ?1"
@@ -287,6 +291,13 @@ pub drivers_is : (layout : Layout) → IsReading (archive_schema layout) drivers
 unfolding understood everything
 drivers_is Made = record { meant = refl; unlisted = refl; plain = (refl, refl) }
 drivers_is Carried = record { meant = refl; unlisted = refl; plain = (refl, refl) }
+
+-- a reading of the key
+pub secret_is : (layout : Layout)
+    → IsReading (archive_schema layout) secret_text 1 (column_is 0) (col 1 3 ∷ []) [] (codes "secret" ∷ [])
+unfolding understood everything
+secret_is Made = record { meant = refl; unlisted = refl; plain = (refl, refl) }
+secret_is Carried = record { meant = refl; unlisted = refl; plain = (refl, refl) }
 
 -- a reading by key
 pub by_secret_is : (layout : Layout)

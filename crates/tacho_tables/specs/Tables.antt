@@ -130,6 +130,9 @@ span_shown r = Int (pos r.start) ∷ Int (pos r.past) ∷ Int (pos r.mark) ∷ [
 abbrev pub number_shown : DriverRow → Row
 number_shown r = Int (pos r.driver) ∷ []
 
+abbrev pub secret_shown : DriverRow → Row
+secret_shown r = Text r.secret ∷ []
+
 abbrev pub driver_shown : DriverRow → Row
 driver_shown r = Int (pos r.driver) ∷ Blob r.holder ∷ Int (pos r.base) ∷ Text r.name ∷ Int (pos r.downloads) ∷ Int (pos r.entries) ∷ []
 

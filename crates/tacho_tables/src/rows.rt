@@ -1,7 +1,7 @@
 ghost use Rattle.std.specs.Prelude.{◌≡◌, ◌∷◌, [], ℕ, pos, List, map, false, IfOk, OnOk, IfSome, IsNone, ◌↔◌, string_bytes};
 ghost use Rattle.sqlite.specs.Held.{state};
 ghost use Rattle.sqlite.specs.State.{HasCleanDisk, IsUnchanged, Survives};
-ghost use Rattle.sqlite.specs.declared.types.Value.TheVariants.{Int};
+ghost use Rattle.sqlite.specs.declared.types.Value.TheVariants.{Int, Text};
 ghost use Rattle.sqlite.specs.Order.{Row as Values};
 ghost use Rattle.tacho_tables.specs.Rows.{SpanRow, DownloadRow, EntryRow, DriverRow};
 ghost use Rattle.tacho_tables.specs.Tables.{span_of, span_shown, told_entry, listed_entry, entry_shown, file_shown, driver_shown, listed_driver, told_driver};
@@ -140,6 +140,18 @@ pub(crate) fn first_number(rows: &[Row]) -> Result<Option<u32>, TableFault>
     ensures none { IfOk result (λ found. IsNone found ↔ (rows.now ≡ [])) }
     ensures some { IfOk result (λ found. IfSome found (λ number. (n : ℕ) (more : List Values)
         → rows.now ≡ (Int (pos n) ∷ []) ∷ more → number ≡ n)) }
+{
+    match rows.first() {
+        None => Ok(None),
+        Some(row) => Ok(Some(row.get(0)?)),
+    }
+}
+
+/// Returns the text in the first row, if there is one.
+pub(crate) fn first_text(rows: &[Row]) -> Result<Option<String>, TableFault>
+    ensures none { IfOk result (λ found. IsNone found ↔ (rows.now ≡ [])) }
+    ensures some { IfOk result (λ found. IfSome found (λ text. (t : List ℕ) (more : List Values)
+        → rows.now ≡ (Text t ∷ []) ∷ more → string_bytes text ≡ t)) }
 {
     match rows.first() {
         None => Ok(None),
