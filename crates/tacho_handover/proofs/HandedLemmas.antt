@@ -11,27 +11,11 @@ use Rattle.tacho_state.specs.Files.{ListedFile, listed_file, told_file}
 use Rattle.tacho_state.specs.State.{Download}
 use Rattle.tacho_state.specs.Steps.{Content}
 use Rattle.tacho_state.specs.declared.file.FileSummary.{FileSummary}
-use Rattle.tacho_state.proofs.ContentLemmas.{one_content}
+use Rattle.tacho_state.proofs.ContentLemmas.{content_once}
 use Rattle.tacho_handover.specs.Covering.{AreCovered, AreHanded, AreNeeded, GivenBy, GivesOf, Handed, HandedGive, HasSpans, IsNext, handed_file}
 use Rattle.tacho_handover.specs.Parcel.{AreHeld, GivenBeside, GivenIn, IsBeside}
 
 -- ---- a card file has one list of spans
-
-one_part : (a b : Part) → part_number a ≡ part_number b → a ≡ b
-one_part part.Both part.Both e = refl
-one_part part.Both part.First e = absurd (omega (arith, e))
-one_part part.Both part.Second e = absurd (omega (arith, e))
-one_part part.First part.Both e = absurd (omega (arith, e))
-one_part part.First part.First e = refl
-one_part part.First part.Second e = absurd (omega (arith, e))
-one_part part.Second part.Both e = absurd (omega (arith, e))
-one_part part.Second part.First e = absurd (omega (arith, e))
-one_part part.Second part.Second e = refl
-
-content_once : (number : ℕ) (file : List ℕ) (a b : Content) → HasContent number file a → HasContent number file b → a ≡ b
-content_once number file a b (p, is, tells) (q, also, told) =
-    let same : Ok a ≡ Ok b = one_content p file (Ok a) (Ok b) tells (subst (λ (x : Part). FileTells x file (Ok b)) (one_part q p (also ∙ sym is)) told) in
-    cc
 
 pub spans_once : (d : Download) (a b : List Span) → HasSpans d a → HasSpans d b → a ≡ b
 spans_once d a b (x, has, is) (y, also, it) =

@@ -1,0 +1,14 @@
+pub mod ListLemmas
+pub mod HeldLemmas
+pub mod DayLemmas
+pub mod DriverLemmas
+pub mod SoundLemmas
+pub mod TakenLemmas
+pub mod StepLemmas
+pub mod FileLemmas
+pub mod EntryLemmas
+pub mod LeftOutLemmas
+pub mod StaysLemmas
+pub mod CarriedLemmas
+pub mod OrderLemmas
+pub mod EachLemmas
