@@ -24,7 +24,8 @@ use Rattle.tacho_desk.specs.declared.task.Task.{Task}
 use Rattle.tacho_desk.specs.declared.task.Task.TheVariants as task
 use Rattle.tacho_desk.specs.declared.want.Want.{Want}
 use Rattle.tacho_desk.specs.declared.want.Want.TheVariants as want
-use Rattle.tacho_desk.proofs.MeantLemmas.{IsSameAsItself, nothing, served_as}
+use Rattle.tacho_state.proofs.ReadLemmas.{IsSameAsItself}
+use Rattle.tacho_desk.proofs.MeantLemmas.{nothing, served_as}
 use Rattle.tacho_cli.specs.Office.{AreArgumentsFaulty, AreSound, HasNotRead, HasRead, IsFaultyOver, OfficeWants, Performed, Performs}
 use Rattle.tacho_cli.proofs.CommandLemmas.{any_input, some_input}
 

@@ -5,6 +5,7 @@ pub mod Holder
 pub mod Card
 pub mod Words
 pub mod Asked
+pub mod Carried
 pub mod Office
 pub mod Files
 pub mod Tally

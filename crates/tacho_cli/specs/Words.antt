@@ -98,6 +98,8 @@ IsJobOf act.Card rows (job.Card part) = IsWord rows (codes "PART") part.now
 IsJobOf act.Init rows (job.Init archive) = IsWord rows (codes "ARCHIVE") archive.now
 IsJobOf act.Migrate rows (job.Migrate archive) = IsWord rows (codes "ARCHIVE") archive.now
 IsJobOf act.Check rows (job.Check archive) = IsWord rows (codes "ARCHIVE") archive.now
+IsJobOf act.Carry rows (job.Carry archive new date) =
+    IsWord rows (codes "ARCHIVE") archive.now × IsWord rows (codes "NEW") new.now × IsWord rows (codes "DATE") date.now
 IsJobOf (act.AtDesk w) rows (job.AtDesk j) =
     IsWord rows (codes "ARCHIVE") j.archive.now
     × (wish_in j.wish ≡ record { want = w; driver = driver_text rows; word = other_text rows; next = next_text rows })
@@ -127,6 +129,7 @@ archive_of (job.Card part) = None
 archive_of (job.Init archive) = Some archive.now
 archive_of (job.Migrate archive) = Some archive.now
 archive_of (job.Check archive) = Some archive.now
+archive_of (job.Carry archive new date) = Some archive.now
 archive_of (job.AtDesk j) = Some j.archive.now
 archive_of (job.Serve archive key port count) = Some archive.now
 archive_of (job.Listen archive port count) = Some archive.now

@@ -137,6 +137,7 @@ pub(crate) fn input_of(act: Act) -> Option<&'static str> {
 fn meaning_of(argument: Argument) -> &'static str {
     match argument {
         Argument::Archive => "The path of the archive",
+        Argument::New => "The path of the new archive, where no file may be",
         Argument::Driver | Argument::AnyDriver => "The driver's number, 1 to 999999",
         Argument::Part => {
             "The blocks of the card file that are read: first (first generation), second (second generation), or both"
@@ -149,6 +150,7 @@ fn meaning_of(argument: Argument) -> &'static str {
         Argument::AnyDate => "A day, as 2024-03-04: only gaps before it are printed",
         Argument::From => "The first day of a period, as 2024-03-01",
         Argument::Past => "The day after its last, at most 366 days later",
+        Argument::Since => "A day, as 2024-03-07: what reaches it or lies after it is carried",
         Argument::Month => "A month, as 2024-03",
         Argument::DateOfTime => "A day, as 2024-03-07",
         Argument::Time => "The time of that day in UTC, as 12:00",

@@ -31,6 +31,12 @@ pub enum Job<'a> {
     Check {
         archive: &'a str,
     },
+    /// Makes an archive in the new file of what is needed of an archive from the day on that the text names.
+    Carry {
+        archive: &'a str,
+        new: &'a str,
+        date: &'a str,
+    },
     /// Does a task at an existing archive.
     AtDesk(DeskJob<'a>),
     /// Answers `count` connections on a port of 127.0.0.1, with the office's key and those of drivers.
@@ -70,6 +76,7 @@ impl<'a> Job<'a> {
             Job::Init { archive }
             | Job::Migrate { archive }
             | Job::Check { archive }
+            | Job::Carry { archive, .. }
             | Job::AtDesk(DeskJob { archive, .. })
             | Job::Serve { archive, .. }
             | Job::Listen { archive, .. } => Some(archive),

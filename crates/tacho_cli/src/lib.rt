@@ -2,6 +2,7 @@
 #![tactic(auto)]
 
 mod asked;
+mod carried;
 mod commands;
 mod files;
 mod help;
@@ -14,6 +15,7 @@ mod tally;
 mod words;
 
 pub use asked::{Asked, asked_early};
+pub use carried::{carry_day, tell_carried};
 pub use commands::{card, dump, holder};
 pub use files::{CardFiles, import_files};
 pub use help::{help_of, help_text, usage_text};

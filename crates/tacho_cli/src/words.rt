@@ -146,6 +146,11 @@ fn job_of<'a>(act: Act, words: &ArgMatches<'a>) -> Result<Job<'a>, Usage>
         Act::Init => Ok(Job::Init { archive: archive? }),
         Act::Migrate => Ok(Job::Migrate { archive: archive? }),
         Act::Check => Ok(Job::Check { archive: archive? }),
+        Act::Carry => Ok(Job::Carry {
+            archive: archive?,
+            new: required(words, "NEW")?,
+            date: required(words, "DATE")?,
+        }),
         Act::AtDesk(want) => {
             let driver = text_of(words, "DRIVER").or(text_of(words, "[DRIVER]"));
             Ok(Job::AtDesk(DeskJob {

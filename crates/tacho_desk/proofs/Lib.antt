@@ -1,5 +1,4 @@
 pub mod MeantLemmas
-mod ReadLemmas
 mod ServeLemmas
 mod ShownLemmas
 mod AllLemmas

@@ -2,6 +2,7 @@
 use Rattle.std.proofs.Common.{◌≡◌, ◌⊎◌, Bool, List, Result, Ok, Err, ap, rules}
 use Rattle.std.specs.Prelude.{IsErrAnd}
 use Rattle.tacho_state.specs.State.{State}
+use Rattle.tacho_state.proofs.ReadLemmas.{IsSameAsItself, StaysSame}
 use Rattle.tacho_desk.specs.Doing.{Doing, Serves}
 use Rattle.tacho_sheet.specs.Fault.{IsFailure}
 use Rattle.tacho_desk.specs.Told.{Answer, answer_of}
@@ -12,15 +13,6 @@ use Rattle.tacho_desk.specs.declared.text.Text.{Text}
 pub faulty : (result : Result Text Fault) (f : Fault) → IsErrAnd result (λ e. e ≡ f) → answer_of result ≡ Err f
 faulty (Err e) f h = ap Err h
 faulty (Ok text) f h = absurd h
-
--- an archive has the same rows as itself; and if neither of two calls in sequence changes a row, both together change none: a `Keeper`
--- ensures these as `same_self` and `same_then`
-abbrev pub IsSameAsItself : {K : Type 0} → (K → K → Type 0) → Type 0
-IsSameAsItself {K = K} is_same = (keeper : K) → is_same keeper keeper
-
-abbrev pub StaysSame : {K : Type 0} → (K → Type 0) → (K → K → Type 0) → Type 0
-StaysSame {K = K} is_live is_same =
-    (first second third : K) → (is_live third → is_live second) → is_same first second → is_same second third → is_same first third
 
 module _ {K : Type 0} (stands : K → State → Type 0) (is_clean is_live : K → Type 0) (leaves : K → List State → Type 0)
     (is_same : K → K → Type 0) where

@@ -2,9 +2,9 @@
 use Rattle.std.specs.Prelude.{ℕ, List, [], ◌∷◌, codes, map}
 use Rattle.tacho_desk.specs.declared.argument.Argument.{Argument}
 use Rattle.tacho_desk.specs.declared.argument.Argument.TheVariants as argument
-use Rattle.tacho_desk.specs.declared.argument.Argument.TheVariants.{AnyDate, AnyDriver, AnyLast, Archive, Count, Date, DateOfTime, Driver, From, Month, Number, Part, Past, Port, Time}
+use Rattle.tacho_desk.specs.declared.argument.Argument.TheVariants.{AnyDate, AnyDriver, AnyLast, Archive, Count, Date, DateOfTime, Driver, From, Month, New, Number, Part, Past, Port, Since, Time}
 use Rattle.tacho_desk.specs.declared.table.Act.{Act}
-use Rattle.tacho_desk.specs.declared.table.Act.TheVariants.{AtDesk, Card, Check, Dump, Holder, Init, Listen, Migrate, Serve, Version}
+use Rattle.tacho_desk.specs.declared.table.Act.TheVariants.{AtDesk, Card, Carry, Check, Dump, Holder, Init, Listen, Migrate, Serve, Version}
 use Rattle.tacho_desk.specs.declared.table.Command.{Command}
 use Rattle.tacho_desk.specs.declared.want.MonthOfAll.TheVariants.{Incidents, Overview, Standing}
 use Rattle.tacho_desk.specs.declared.want.MonthReading.TheVariants.{Chart, Gaps, Sheet, Spans, Why}
@@ -31,6 +31,7 @@ use Rattle.tacho_desk.specs.declared.want.Want.TheVariants.{
 -- the name of an argument; one that may be left out is in brackets
 abbrev pub name_of : Argument → List ℕ
 name_of Archive = codes "ARCHIVE"
+name_of New = codes "NEW"
 name_of Part = codes "PART"
 name_of Driver = codes "DRIVER"
 name_of AnyDriver = codes "[DRIVER]"
@@ -40,6 +41,7 @@ name_of Date = codes "DATE"
 name_of AnyDate = codes "[DATE]"
 name_of From = codes "FROM"
 name_of Past = codes "PAST"
+name_of Since = codes "DATE"
 name_of Month = codes "MONTH"
 name_of DateOfTime = codes "DATE"
 name_of Time = codes "TIME"
@@ -69,6 +71,7 @@ all_commands =
     ∷ row (codes "init") (Archive ∷ []) Init []
     ∷ row (codes "migrate") (Archive ∷ []) Migrate []
     ∷ row (codes "check") (Archive ∷ []) Check []
+    ∷ row (codes "carry") (Archive ∷ New ∷ Since ∷ []) Carry []
     ∷ row (codes "register") (Archive ∷ []) (AtDesk Register) (codes "/drivers" ∷ [])
     ∷ row (codes "import") (Archive ∷ Part ∷ []) (AtDesk Import) (codes "/cards/{word}" ∷ codes "/me/cards/{word}" ∷ [])
     ∷ row (codes "enter") (Archive ∷ Driver ∷ []) (AtDesk Enter) (codes "/drivers/{driver}/entries" ∷ [])

@@ -3,6 +3,8 @@
 pub enum Argument {
     /// The path of the archive's file.
     Archive,
+    /// The path of a new archive's file.
+    New,
     /// The part of a card file.
     Part,
     /// The number of a driver.
@@ -21,6 +23,8 @@ pub enum Argument {
     From,
     /// The day after the last of a period.
     Past,
+    /// The day from which an archive is carried over.
+    Since,
     /// A month.
     Month,
     /// The day of a minute. The next argument is its time.
@@ -45,6 +49,7 @@ impl Argument {
     {
         match self {
             Argument::Archive => "ARCHIVE",
+            Argument::New => "NEW",
             Argument::Part => "PART",
             Argument::Driver => "DRIVER",
             Argument::AnyDriver => "[DRIVER]",
@@ -54,6 +59,7 @@ impl Argument {
             Argument::AnyDate => "[DATE]",
             Argument::From => "FROM",
             Argument::Past => "PAST",
+            Argument::Since => "DATE",
             Argument::Month => "MONTH",
             Argument::DateOfTime => "DATE",
             Argument::Time => "TIME",

@@ -3,10 +3,10 @@
 ghost use Rattle.std.specs.Prelude.{◌≡◌, map};
 ghost use Rattle.tacho_desk.specs.Commands.{all_commands, row_of};
 
-use self::Act::{AtDesk, Card, Check, Dump, Holder, Init, Listen, Migrate, Serve, Version};
+use self::Act::{AtDesk, Card, Carry, Check, Dump, Holder, Init, Listen, Migrate, Serve, Version};
 use crate::argument::Argument::{
-    self, AnyDate, AnyDriver, AnyLast, Archive, Count, Date, DateOfTime, Driver, From, Month,
-    Number, Part, Past, Port, Time,
+    self, AnyDate, AnyDriver, AnyLast, Archive, Count, Date, DateOfTime, Driver, From, Month, New,
+    Number, Part, Past, Port, Since, Time,
 };
 use crate::want::MonthOfAll::{Incidents, Overview, Standing};
 use crate::want::MonthReading::{Chart, Gaps, Sheet, Spans, Why};
@@ -31,6 +31,8 @@ pub enum Act {
     Migrate,
     /// Checks an archive's tables.
     Check,
+    /// Makes a new archive of what is needed of an archive from a day on.
+    Carry,
     /// Does a task at an archive.
     AtDesk(Want),
     /// Answers requests, with the office's key as an argument.
@@ -58,7 +60,7 @@ pub struct Command {
 }
 
 /// The commands.
-static COMMANDS: [Command; 36] = [
+static COMMANDS: [Command; 37] = [
     Command {
         name: "dump",
         about: "Prints the spans in the value of an EF Driver_Activity_Data (0504), one per line",
@@ -99,6 +101,13 @@ static COMMANDS: [Command; 36] = [
         about: "Checks all rows of an archive: prints sound, or unsound with the first driver and table whose rows can't be right",
         arguments: &[Archive],
         act: Check,
+        paths: &[],
+    },
+    Command {
+        name: "carry",
+        about: "Makes an archive in a new file of what is needed from a day on; the old archive doesn't change",
+        arguments: &[Archive, New, Since],
+        act: Carry,
         paths: &[],
     },
     Command {

@@ -4,10 +4,12 @@
 
 mod cards;
 mod cause;
+mod fresh;
 mod owned;
 mod watched;
 
 pub use cards::card_files;
 pub use cause::cause_of;
+pub use fresh::{Fresh, NotFresh};
 pub use owned::{NotOwned, make_own};
 pub use watched::Watched;

@@ -4,7 +4,7 @@ use std::fs::{self, Permissions};
 use std::os::unix::fs::{OpenOptionsExt, PermissionsExt};
 
 /// The mode of a new file.
-const OWNER_ALONE: u32 = 0o600;
+pub(crate) const OWNER_ALONE: u32 = 0o600;
 
 /// Why a file can't be made or changed so.
 #[derive(Clone, Copy)]

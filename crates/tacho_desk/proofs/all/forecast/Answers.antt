@@ -4,7 +4,7 @@ use Rattle.tacho_state.specs.State.{driver_of}
 use Rattle.tacho_state.specs.Summaries.{told_summary}
 use Rattle.tacho_sheet.specs.Forecast.{forecast_head, IsForecastRow}
 use Rattle.tacho_desk.proofs.AllLemmas.{IsForecastOf, none_unknown, none_yet, of_base, row_more, when_some}
-use Rattle.tacho_desk.proofs.ReadLemmas.{read_first, read_on}
+use Rattle.tacho_state.proofs.ReadLemmas.{read_first, read_on}
 use Rattle.tacho_desk.proofs.all.forecast.Goals as goal
 
 pub loop-driver-init : goal.loop-driver-init

@@ -3,7 +3,7 @@ use Rattle.tacho_state.specs.State.{State}
 use Rattle.tacho_state.specs.State.{driver_of}
 use Rattle.tacho_sheet.specs.Months.{overview_head}
 use Rattle.tacho_desk.proofs.AllLemmas.{IsOverviewOf, none_unknown, none_yet, overview_of, row_more}
-use Rattle.tacho_desk.proofs.ReadLemmas.{read_first, read_on}
+use Rattle.tacho_state.proofs.ReadLemmas.{read_first, read_on}
 use Rattle.tacho_desk.proofs.all.overview.Goals as goal
 
 pub loop-driver-init : goal.loop-driver-init

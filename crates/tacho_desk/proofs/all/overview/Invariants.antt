@@ -3,7 +3,7 @@ use Rattle.tacho_state.specs.State.{State}
 use Rattle.tacho_state.specs.Summaries.{AreSummaries, told_summary}
 use Rattle.tacho_sheet.specs.Months.{overview_head}
 use Rattle.tacho_desk.proofs.AllLemmas.{IsOverviewOf, IsSoFar}
-use Rattle.tacho_desk.proofs.ReadLemmas.{AreRead}
+use Rattle.tacho_state.specs.Acts.{OnlyRead}
 use Rattle.tacho_desk.proofs.all.overview.Given as goal
 
 -- the archive was only read, and the text so far is a row for each of the drivers so far
@@ -11,7 +11,7 @@ abbrev pub invariant-loop-driver : goal.invariant-loop-driver
 invariant-loop-driver g l =
     let k = g.K.Keeper in
     record {
-      read : AreRead k.stands k.is_clean k.leaves k.is_same l.fn.keeper l.keeper;
+      read : OnlyRead k.stands k.is_clean k.leaves k.is_same l.fn.keeper l.keeper;
       live : k.is_clean l.keeper → k.is_live l.keeper;
       listed : k.is_clean l.keeper → (s : State) → k.stands l.fn.keeper s → AreSummaries s (map told_summary l.driver-items);
       rows : k.is_clean l.keeper → (s : State) → k.stands l.fn.keeper s

@@ -4,7 +4,7 @@ use Rattle.tacho_state.specs.State.{driver_of}
 use Rattle.tacho_state.specs.Summaries.{told_summary}
 use Rattle.tacho_sheet.specs.Standing.{standing_head, IsStandingRow}
 use Rattle.tacho_desk.proofs.AllLemmas.{IsStandingOf, none_unknown, none_yet, of_base, row_more}
-use Rattle.tacho_desk.proofs.ReadLemmas.{read_first, read_on}
+use Rattle.tacho_state.proofs.ReadLemmas.{read_first, read_on}
 use Rattle.tacho_desk.proofs.all.standing.Goals as goal
 
 pub loop-driver-init : goal.loop-driver-init

@@ -5,7 +5,7 @@ use Rattle.tacho_state.specs.Steps.{file_reading}
 use Rattle.tacho_sheet.specs.Fault.{IsFailure, fault_of_store}
 use Rattle.tacho_desk.specs.Version.{program_line}
 use Rattle.tacho_desk.proofs.HandoverLemmas.{IsSoFar, begun, gave_up, handed_over, one_more, there}
-use Rattle.tacho_desk.proofs.ReadLemmas.{read_first, read_on}
+use Rattle.tacho_state.proofs.ReadLemmas.{read_first, read_on}
 use Rattle.tacho_desk.proofs.handover.handover.Goals as goal
 
 pub returns-in_err-files-clause-serves : goal.returns-in_err-files-clause-serves

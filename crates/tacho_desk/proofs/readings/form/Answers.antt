@@ -1,6 +1,6 @@
 use Rattle.std.proofs.Common.{rules, inl, refl}
 use Rattle.tacho_state.specs.State.{driver_of}
-use Rattle.tacho_desk.proofs.ReadLemmas.{read_first, read_on}
+use Rattle.tacho_state.proofs.ReadLemmas.{read_first, read_on}
 use Rattle.tacho_desk.proofs.ShownLemmas.{form_of}
 use Rattle.tacho_desk.proofs.readings.form.Goals as goal
 

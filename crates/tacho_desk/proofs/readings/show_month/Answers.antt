@@ -1,5 +1,5 @@
 use Rattle.std.proofs.Common.{rules}
-use Rattle.tacho_desk.proofs.ReadLemmas.{read_first, read_on}
+use Rattle.tacho_state.proofs.ReadLemmas.{read_first, read_on}
 use Rattle.tacho_desk.proofs.ShownLemmas.{chart_of, sheet_of, why_of}
 use Rattle.tacho_desk.proofs.readings.show_month.Goals as goal
 
