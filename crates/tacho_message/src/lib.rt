@@ -14,5 +14,5 @@ pub use fields::{Values, length_of, values_of};
 pub use head::{Head, HeadFault, read_head};
 pub use length::body_length_of;
 pub use method::Method;
-pub use reply::{MediaType, Status, write_reply};
+pub use reply::{MediaType, PageFile, PageType, Status, write_reply};
 pub use request::{Request, request_of};

@@ -1,14 +1,23 @@
 ghost use Rattle.std.specs.Prelude.{◌≡◌, ℕ, ◌≤◌, ◌+◌, ◌++◌, length, take, OnOk, is_err};
 ghost use Rattle.std.specs.Io.KnownBytes.{Appends};
 ghost use Rattle.arrayvec.specs.ArrayVec.{array_vec_len};
-ghost use Rattle.tacho_message.specs.Reply.{status_line, media_type, head_bytes, reply_bytes};
+ghost use Rattle.tacho_message.specs.Reply.{status_line, media_type, page_type, further_fields, head_bytes, reply_bytes};
 
 use arrayvec::ArrayVec;
 use itoa::Buffer;
 use tacho_time::{Failed, Sink, write_all};
 
 /// The most bytes that the head of a reply can have.
-const ROOM: usize = 256;
+const ROOM: usize = 512;
+
+/// The fields that the reply with a page file has beside those of all replies: what a browser may load and do for it.
+const PAGE_FIELDS: &[u8] =
+    b"content-security-policy: default-src 'none'; script-src 'self'; style-src 'self'; connect-src 'self'; \
+    img-src data:; base-uri 'none'; form-action 'none'; frame-ancestors 'none'; require-trusted-types-for 'script'\r\n\
+    x-content-type-options: nosniff\r\n\
+    referrer-policy: no-referrer\r\n\
+    cross-origin-opener-policy: same-origin\r\n\
+    cache-control: no-cache\r\n";
 
 /// The status of a reply.
 #[derive(Clone, Copy, Debug, PartialEq, Eq)]
@@ -50,6 +59,40 @@ impl Status {
     }
 }
 
+/// The type of a page file.
+#[derive(Clone, Copy)]
+pub enum PageType {
+    Html,
+    Css,
+    JavaScript,
+    /// Text in UTF-8.
+    Text,
+}
+
+impl PageType {
+    /// The name of the media type.
+    fn name(self) -> &'static [u8]
+        ensures text { result.now ≡ page_type self }
+        ensures short { length result.now ≤ 30 }
+    {
+        match self {
+            PageType::Html => b"text/html; charset=utf-8",
+            PageType::Css => b"text/css; charset=utf-8",
+            PageType::JavaScript => b"text/javascript; charset=utf-8",
+            PageType::Text => b"text/plain; charset=utf-8",
+        }
+    }
+}
+
+/// A file that makes up the pages in a browser.
+#[derive(Clone, Copy)]
+pub struct PageFile {
+    /// The path by which it is asked for.
+    pub path: &'static str,
+    pub kind: PageType,
+    pub text: &'static str,
+}
+
 /// The type of a body.
 #[derive(Clone, Copy)]
 pub enum MediaType {
@@ -63,13 +106,15 @@ pub enum MediaType {
     Octets,
     /// A tar file.
     Tar,
+    /// A page file.
+    Page(PageType),
 }
 
 impl MediaType {
     /// The name of the media type.
     fn name(self) -> &'static [u8]
         ensures text { result.now ≡ media_type self }
-        ensures short { length result.now ≤ 25 }
+        ensures short { length result.now ≤ 30 }
     {
         match self {
             MediaType::Text => b"text/plain; charset=utf-8",
@@ -77,6 +122,18 @@ impl MediaType {
             MediaType::Svg => b"image/svg+xml",
             MediaType::Octets => b"application/octet-stream",
             MediaType::Tar => b"application/x-tar",
+            MediaType::Page(kind) => kind.name(),
+        }
+    }
+
+    /// The fields of the head that only replies of this type have.
+    fn fields(self) -> &'static [u8]
+        ensures text { result.now ≡ further_fields self }
+        ensures short { length result.now ≤ 345 }
+    {
+        match self {
+            MediaType::Page(_) => PAGE_FIELDS,
+            _ => b"",
         }
     }
 }
@@ -104,7 +161,9 @@ fn head_of(status: Status, media: MediaType, length: usize) -> ArrayVec<u8, ROOM
     put(&mut head, media.name());
     put(&mut head, b"\r\ncontent-length: ");
     put(&mut head, digits.format(length).as_bytes());
-    put(&mut head, b"\r\nconnection: close\r\n\r\n");
+    put(&mut head, b"\r\nconnection: close\r\n");
+    put(&mut head, media.fields());
+    put(&mut head, b"\r\n");
     head
 }
 
