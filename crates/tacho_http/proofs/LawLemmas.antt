@@ -145,7 +145,7 @@ module _ (refusals : RefusalsStay) (office : List ℕ) (s : State) (reply : Repl
       by_whom false does = by_owner (owner key s) does
 
 -- so 503 leaves the state as it was
-pub keeps_503 : RefusalsStay → Keeps503
+pub keeps_503 : RefusalsStay → Keeps503 Reacts
 keeps_503 refusals office input s _ _ (headed h rest reply after begins does) e =
     keys_kept refusals office s reply after e (key_of h) h rest does
 keeps_503 refusals office input s _ _ r e = refl
@@ -262,7 +262,7 @@ module _ (n : ℕ) where
   act_once one_answer (Ok (t, body)) its s p q after left h k =
       let x = one_answer n t its body s h.0 k.0 after left h.1 k.1 in (h.2 ∙ (ap (reply_to (want_of t)) x.0 ∙ sym k.2), x.1)
 
-pub same_reply : OwnWants → SameAnswers → SameReply
+pub same_reply : OwnWants → SameAnswers → SameReply Reacts
 same_reply own same_answers office input n s other a b e _ _ (headed h rest reply after begins does) =
     let comes = comes_to own office input n s a h rest begins reply after does in
     let x = act_same n same_answers s other e comes.0 comes.1 reply after ((comes.2 s a reply after).0 does) in
@@ -271,14 +271,14 @@ same_reply own same_answers office input n s other a b e _ _ (bad r) = (other, b
 same_reply own same_answers office input n s other a b e _ _ (large r) = (other, large r, e)
 same_reply own same_answers office input n s other a b e _ _ (unavailable h rest key begins k) = (other, unavailable h rest key begins k, e)
 
-pub keeps_others : OwnWants → OthersStay → KeepsOthers
+pub keeps_others : OwnWants → OthersStay → KeepsOthers Reacts
 keeps_others own others_stay office input n s a _ _ (headed h rest reply after begins does) m differ =
     let comes = comes_to own office input n s a h rest begins reply after does in
     act_others n others_stay m differ comes.0 comes.1 s reply after ((comes.2 s a reply after).0 does)
 keeps_others own others_stay office input n s a _ _ r m differ = refl
 
 -- the reply in the first state is one in the other, and there is only one
-pub one_reply : OwnWants → SameAnswers → OneAnswer → OneReply
+pub one_reply : OwnWants → SameAnswers → OneAnswer → OneReply Reacts
 one_reply own same_answers one_answer office input n s other a b e p after x q left y f g =
     let moved = same_reply own same_answers office input n s other a b e p after x in
     let first = is_headed own office input n other b p moved.0 moved.1 f in

@@ -5,5 +5,6 @@ mod AccessLemmas
 mod RespondLemmas
 mod HeadLemmas
 mod RunLemmas
+mod PageLemmas
 mod LawLemmas
 mod PageFacts

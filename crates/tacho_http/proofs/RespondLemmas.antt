@@ -15,21 +15,24 @@ use Rattle.tacho_sheet.specs.Fault.{IsFailure}
 use Rattle.tacho_desk.specs.Tasks.{Does}
 use Rattle.tacho_desk.specs.Told.{Answer}
 use Rattle.tacho_sheet.specs.declared.fault.Fault.{Fault}
-use Rattle.tacho_desk.proofs.MeantLemmas.{IsSameAsItself, StaysSame}
+use Rattle.tacho_state.proofs.ReadLemmas.{IsSameAsItself, StaysSame}
 use Rattle.tacho_message.specs.Head.{BeginsWith}
 use Rattle.tacho_message.specs.Length.{body_length, method_of}
 use Rattle.tacho_message.specs.Request.{key_of}
 use Rattle.tacho_message.specs.declared.method.Method.{Method}
 use Rattle.tacho_message.specs.declared.reply.Status.{Status}
 use Rattle.tacho_message.specs.declared.reply.Status.TheVariants as status
-use Rattle.tacho_http.specs.Answer.{Answered, AnswersInput, Asks, HasRepliedOrFailed, HasReplied, IsPosted, IsUnfinished, LacksMore, MayAsk}
+use Rattle.tacho_http.specs.Answer.{AnswersInput, Asks, HasRepliedOrFailed, HasReplied, IsPosted, IsUnfinished, LacksMore, MayAsk}
 use Rattle.tacho_http.specs.Answer.{Responds, CrashMayLeaveResult, CrashMayLeaveReply, is_done}
 use Rattle.tacho_http.specs.Asked.{is_post, wish_by}
+use Rattle.tacho_http.specs.Pages.{AnsweredOrGiven, AsksNoPage, GivesOrDoes, ReactsOrGives, file_at}
+use Rattle.tacho_http.proofs.PageLemmas.{no_page, reply_does}
+use Rattle.tacho_message.specs.declared.reply.PageFile.{PageFile}
 use Rattle.tacho_http.specs.Reply.{Reply, fault_reply, reply_of_status, reply_of, reply_to}
 use Rattle.tacho_http.specs.Routes.{Named}
 use Rattle.tacho_http.specs.declared.places.Asker.{Asker}
 use Rattle.tacho_desk.specs.declared.want.Want.{Want}
-use Rattle.tacho_http.specs.Serve.{ByKey, Reaction, Reacts, headed, unavailable as unavailable_reply}
+use Rattle.tacho_http.specs.Serve.{ByKey, Reaction, headed, unavailable as unavailable_reply}
 use Rattle.tacho_http.specs.declared.response.Response.{Response}
 
 -- ---- refusals
@@ -213,68 +216,82 @@ pub posted_by : (input rest : List ℕ) (h : RequestHead) → BeginsWith 8192 32
 posted_by input rest h begins p = (let same = request_unique input h p.0 rest p.1 begins.reads p.2.reads in rw same.0 p.3)
 
 module _ {K : Type 0} {stands : K → State → Type 0} {is_clean is_live : K → Type 0} {leaves : K → List State → Type 0}
-    {is_same : K → K → Type 0} {office : List ℕ} {unread left : Option (List ℕ)} where
-  -- nothing was done; the reply is one that the input may get, and doesn't say that anything was done
+    {is_same : K → K → Type 0} {files : List PageFile} {office : List ℕ} {unread left : Option (List ℕ)} where
+  -- nothing was done; the reply is one that the input may get, and doesn't say that a command was done
   pub nothing_answered : {keeper : K} {response : Response} {reply : Reply} → IsSameAsItself is_same
       → (command : Bool) {input : List ℕ} → IfSome unread (λ all. input ≡ all) → (IsPosted input → command ≡ true)
-      → (command ≡ true → IsPosted input) → reply_of response ≡ reply → is_done reply.status ≡ false
-      → ((s : State) → Reacts office input s reply s)
-      → Answered stands is_clean is_live leaves is_same keeper keeper office unread left (Ok response)
-  nothing_answered {response = response} same_self command {input = input} told posted is_posted is none h = record {
-    input = input;
-    told = told;
-    command = command;
-    posted = posted;
-    is_posted = is_posted;
-    clean = λ c. c;
-    live = λ c done. undone response is none done;
-    answers = λ c s st. (s, st, rw is (h s), λ command done. undone response is none done);
-    same = λ unchanged c s st. same_self _;
-    crash = λ c s past st l. inl l;
-    unfinished = λ e. cc;
-    known = λ c s st e. cc;
+      → (command ≡ true → IsPosted input) → reply_of response ≡ reply → (command ≡ true → is_done reply.status ≡ false)
+      → ((s : State) → ReactsOrGives files office input s reply s) → GivesOrDoes is_clean is_live files input reply keeper keeper
+      → AnsweredOrGiven files office stands is_clean is_live leaves is_same keeper keeper unread left (Ok response)
+  nothing_answered {response = response} same_self command {input = input} told posted is_posted is none h does = record {
+    answered = record {
+      input = input;
+      told = told;
+      command = command;
+      posted = posted;
+      is_posted = is_posted;
+      clean = λ c. c;
+      answers = λ c s st. (s, st, rw is (h s), λ command done. undone response is (none command) done);
+      same = λ unchanged c s st. same_self _;
+      crash = λ c s past st l. inl l;
+      unfinished = λ e. cc;
+      known = λ c s st e. cc;
+    };
+    does = rw is does;
   }
 
   -- a request with one key was answered
   pub keyed : {old new : K} {key : List ℕ} (came after_head : List ℕ) {h : RequestHead} {mid : Option (List ℕ)}
       {result : Result Response Failed} → key_of h ≡ Some key → Consumes unread mid came
       → ((more : List ℕ) → BeginsWith 8192 32 (came ++ more) h (after_head ++ more))
+      → file_at files h.target ≡ None
       → Responds stands is_clean is_live leaves is_same old new (is_post (method_of h.method)) mid result
       (λ left s. ByKey office key h (after_head ++ left) s)
       → (IsErr result → LacksMore (MayAsk office) h after_head mid left)
       → (IsErr result → is_clean new → (s : State) → stands old s → LacksMore (Asks s office) h after_head mid left)
-      → Answered stands is_clean is_live leaves is_same old new office unread left result
-  keyed {new = new} {key = key} came after_head {h = h} {mid = mid} {result = result} has cut begins r lacks known = record {
-    input = input;
-    told = consumed unread mid came r.left cut r.told;
-    command = is_post (method_of h.method);
-    posted = posted_by input (after_head ++ r.left) h (begins r.left);
-    is_posted = is_posted result;
-    clean = r.clean;
-    live = r.live;
-    answers = λ c s st. answers s result (r.given c s st);
-    same = r.same;
-    crash = λ c s past st l. stopped_as (leaves new) past _ (Reacts office input s) result (reacts s) (r.crash c s past st l);
-    unfinished = λ e. unfinished _ (lacks e);
-    known = λ c s st e. unfinished _ (known e c s st);
+      → AnsweredOrGiven files office stands is_clean is_live leaves is_same old new unread left result
+  keyed {old = old} {new = new} {key = key} came after_head {h = h} {mid = mid} {result = result} has cut begins none r lacks known = record {
+    answered = record {
+      input = input;
+      told = consumed unread mid came r.left cut r.told;
+      command = is_post (method_of h.method);
+      posted = posted_by input (after_head ++ r.left) h (begins r.left);
+      is_posted = is_posted result;
+      clean = r.clean;
+      answers = λ c s st. answers s result (r.given c s st);
+      same = r.same;
+      crash = λ c s past st l. stopped_as (leaves new) past _ (ReactsOrGives files office input s) result (reacts s) (r.crash c s past st l);
+      unfinished = λ e. unfinished _ (lacks e);
+      known = λ c s st e. unfinished _ (known e c s st);
+    };
+    does = does result r.live;
   }
     where
       input : List ℕ
       input = came ++ r.left
 
+      asks_none : AsksNoPage files input
+      asks_none = no_page files (begins r.left) none
+
+      does : (result : Result Response Failed) → (is_clean new → IfOk result (λ response. is_done response.status ≡ true → is_live new))
+          → IfOk result (λ response. GivesOrDoes is_clean is_live files input (reply_of response) old new)
+      does (Ok response) live = reply_does is_clean is_live old new asks_none live
+      does (Err failed) live = tt
+
       reacts : (s : State) (reply : Reply) (after : State) → ByKey office key h (after_head ++ r.left) s reply after
-          → Reacts office input s reply after
-      reacts s reply after wants = headed h (after_head ++ r.left) reply after (begins r.left) (rw has wants)
+          → ReactsOrGives files office input s reply after
+      reacts s reply after did =
+          inr (asks_none, headed h (after_head ++ r.left) reply after (begins r.left) (rw has did))
 
       answers : (s : State) (result : Result Response Failed)
           → HasRepliedOrFailed (stands new) (leaves new) (is_post (method_of h.method)) s (ByKey office key h (after_head ++ r.left) s) result
-          → MatchResult result (λ response. AnswersInput (stands new) (leaves new) (is_post (method_of h.method)) office input s
+          → MatchResult result (λ response. AnswersInput (stands new) (leaves new) (is_post (method_of h.method)) s (ReactsOrGives files office input s)
           (reply_of response)) (λ failed. stands new s)
       answers s (Ok response) (inl g) = (g.0, g.1, reacts s (reply_of response) g.0 g.2, g.3)
       answers s (Ok response) (inr g) = (
         s,
         g.1,
-        rw g.0 (unavailable_reply h (after_head ++ r.left) key (begins r.left) has),
+        rw g.0 (inr (asks_none, unavailable_reply h (after_head ++ r.left) key (begins r.left) has)),
         λ is done. undone response g.0 refl done,
       )
       answers s (Err failed) g = g

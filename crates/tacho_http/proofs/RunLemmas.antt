@@ -12,7 +12,7 @@ use Rattle.tacho_http.specs.Answer.{AnswersInput, Exchanged, IsReplied, Settles,
 use Rattle.tacho_http.specs.Reply.{Reply}
 use Rattle.tacho_desk.specs.Doing.{Kept}
 use Rattle.tacho_http.specs.Run.{Ended, Leaves, Run, Went, WentKept}
-use Rattle.tacho_http.specs.Serve.{Reacts}
+use Rattle.tacho_http.specs.Serve.{Reaction}
 use Rattle.tacho_http.specs.declared.exchange.IoFault.{IoFault}
 use Rattle.tacho_http.specs.declared.exchange.IoFault.TheVariants as io
 use Rattle.tacho_http.specs.declared.exchange.Served.{Served}
@@ -50,9 +50,10 @@ counted (Err fault) = 0
 
 -- ---- one connection, from what `answer` ensures
 
-module _ {K : Type 0} {stands : K → State → Type 0} {is_clean is_live : K → Type 0} {leaves : K → List State → Type 0}
-    {is_same : K → K → Type 0} {before mid : K} {office : List ℕ} {unread old new : Option (List ℕ)} {reader_failed writer_failed : Bool}
-    {result : Result Served IoFault} (x : Exchanged stands is_clean is_live leaves is_same before mid office unread old new result)
+module _ {K : Type 0} {stands : K → State → Type 0} {is_clean : K → Type 0} {leaves : K → List State → Type 0}
+    {is_same : K → K → Type 0} {before mid : K} {Wants : List ℕ → State → Reaction} {unread old new : Option (List ℕ)}
+    {reader_failed writer_failed : Bool} {result : Result Served IoFault}
+    (x : Exchanged Wants stands is_clean leaves is_same before mid unread old new result)
     (e : IsErrOf result io.Read ↔ (reader_failed ≡ true)) (f : IsErrOf result io.Write ↔ (writer_failed ≡ true)) where
   -- an end of the connection: a reply that leads to t, or, if the reader failed, nothing
   abbrev Goes : {S : Type 0} → (S → Type 0) → (Reply → S → Type 0) → S → Result Served IoFault → Type 0
@@ -79,13 +80,13 @@ module _ {K : Type 0} {stands : K → State → Type 0} {is_clean is_live : K �
 
   -- the state after it
   pub went : is_clean mid → (s : State) → stands before s
-      → (t : State) × stands mid t × Went office unread old new reader_failed writer_failed (counted result) s t
+      → (t : State) × stands mid t × Went Wants unread old new reader_failed writer_failed (counted result) s t
   went clean s st =
-      let w = goes (stands mid) (Reacts office x.input s) s (by result (x.settled clean s st)) in
+      let w = goes (stands mid) (Wants x.input s) s (by result (x.settled clean s st)) in
       (w.0, w.1, record { input = x.input; told = x.told; ended = w.2 })
     where
-      by : (result : Result Served IoFault) → Settles (stands mid) (leaves mid) x.command office x.input s x.reply result
-          → Goes (stands mid) (Reacts office x.input s) s result
+      by : (result : Result Served IoFault) → Settles (stands mid) (leaves mid) x.command s (Wants x.input s) x.reply result
+          → Goes (stands mid) (Wants x.input s) s result
       by (Err io.Read) a = a
       by (Ok served) a = (a.0, a.1, a.2)
       by (Err io.Write) a = (a.0, a.1, a.2)
@@ -93,8 +94,8 @@ module _ {K : Type 0} {stands : K → State → Type 0} {is_clean is_live : K �
   -- the states that a crash may leave after it
   leaves_by : (s t : State) (past : List State) (done : Bool) → is_done x.reply.status ≡ done → (command : Bool) → x.command ≡ command
       → (x.command ≡ true → is_done x.reply.status ≡ true → leaves mid (t ∷ []))
-      → CrashMayLeaveReply (leaves mid) past (Reacts office x.input s) x.reply
-      → (future : List State) × leaves mid future × Leaves office x.input s x.reply t past future
+      → CrashMayLeaveReply (leaves mid) past (Wants x.input s) x.reply
+      → (future : List State) × leaves mid future × Leaves x.input (Wants x.input s) x.reply t past future
   leaves_by s t past true is true c kept stopped = (t ∷ [], kept c is, record { one = inr (inl refl); kept = λ p d. refl })
   leaves_by s t past done is command c kept (inl l) = (past, l, record { one = inl refl; kept = λ p d. (let no = x.posted p in cc) })
   leaves_by s t past done is command c kept (inr a) =
@@ -104,23 +105,23 @@ module _ {K : Type 0} {stands : K → State → Type 0} {is_clean is_live : K �
   Stands b = stands mid b.state × leaves mid b.past
 
   abbrev Replies : Kept → Reply → Kept → Type 0
-  Replies a reply b = Reacts office x.input a.state reply b.state × Leaves office x.input a.state reply b.state a.past b.past
+  Replies a reply b = Wants x.input a.state reply b.state × Leaves x.input (Wants x.input a.state) reply b.state a.past b.past
 
   -- the state after it, with the states that a crash may leave
   pub went_kept : is_clean mid → (a : Kept) → stands before a.state → leaves before a.past
-      → (b : Kept) × stands mid b.state × leaves mid b.past × WentKept office unread old new reader_failed writer_failed (counted result) a b
+      → (b : Kept) × stands mid b.state × leaves mid b.past × WentKept Wants unread old new reader_failed writer_failed (counted result) a b
   went_kept clean a st l =
       let w = goes Stands (Replies a) a (by result (x.settled clean a.state st) (x.crash clean a.state a.past st l)) in
       (w.0, w.1.0, w.1.1, record { input = x.input; told = x.told; ended = w.2 })
     where
-      reached : AnswersInput (stands mid) (leaves mid) x.command office x.input a.state x.reply
-          → CrashMayLeaveReply (leaves mid) a.past (Reacts office x.input a.state) x.reply → (b : Kept) × Stands b × Replies a x.reply b
+      reached : AnswersInput (stands mid) (leaves mid) x.command a.state (Wants x.input a.state) x.reply
+          → CrashMayLeaveReply (leaves mid) a.past (Wants x.input a.state) x.reply → (b : Kept) × Stands b × Replies a x.reply b
       reached s stopped =
           let l = leaves_by a.state s.0 a.past (is_done x.reply.status) refl x.command refl s.3 stopped in
           (record { state = s.0; past = l.0 }, (s.1, l.1), (s.2, l.2))
 
-      by : (result : Result Served IoFault) → Settles (stands mid) (leaves mid) x.command office x.input a.state x.reply result
-          → CrashMayLeaveServed (leaves mid) a.past office x.input a.state x.reply result → Goes Stands (Replies a) a result
+      by : (result : Result Served IoFault) → Settles (stands mid) (leaves mid) x.command a.state (Wants x.input a.state) x.reply result
+          → CrashMayLeaveServed (leaves mid) a.past (Wants x.input a.state) x.reply result → Goes Stands (Replies a) a result
       by (Ok served) s stopped = reached s stopped
       by (Err io.Write) s stopped = reached s stopped
       by (Err io.Read) s stopped = (s, stopped)

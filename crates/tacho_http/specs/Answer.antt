@@ -15,7 +15,7 @@ use Rattle.tacho_state.specs.declared.caller.Caller.TheVariants as caller
 use Rattle.tacho_desk.specs.Words.{Wish}
 use Rattle.tacho_http.specs.Asked.{asker_of, is_post, wish_of}
 use Rattle.tacho_http.specs.Reply.{Reply, bytes_of_reply, reply_of_status, reply_of}
-use Rattle.tacho_http.specs.Serve.{Reacts, Reaction, body_of}
+use Rattle.tacho_http.specs.Serve.{Reaction, body_of}
 use Rattle.tacho_http.specs.declared.exchange.IoFault.{IoFault}
 use Rattle.tacho_http.specs.declared.exchange.IoFault.TheVariants as io
 use Rattle.tacho_http.specs.declared.exchange.Served.{Served}
@@ -119,13 +119,13 @@ IsPosted input = (h : RequestHead) × (rest : List ℕ) × BeginsWith 8192 32 in
 
 -- the reply is one that the input may get, and the archive has the state after it; if this is a command that was done, a crash leaves that
 -- state and no other
-abbrev pub AnswersInput : (State → Type 0) → (List State → Type 0) → Bool → List ℕ → List ℕ → State → Reply → Type 0
-AnswersInput stands leaves command office input s reply =
-    (after : State) × stands after × Reacts office input s reply after × (command ≡ true → is_done reply.status ≡ true → leaves (after ∷ []))
+abbrev pub AnswersInput : (State → Type 0) → (List State → Type 0) → Bool → State → Reaction → Reply → Type 0
+AnswersInput stands leaves command s Wants reply =
+    (after : State) × stands after × Wants reply after × (command ≡ true → is_done reply.status ≡ true → leaves (after ∷ []))
 
--- A request was read from a reader and answered; the input is the reader's, if its bytes are known, otherwise some input. Or the reader
--- failed, and the archive has the state before. If nothing is posted or nothing is done, every row stays as it was.
-pub record Answered {K : Type 0} (stands : K → State → Type 0) (is_clean is_live : K → Type 0)
+-- A request was read from a reader and answered as `Wants` says for the input: the reader's, if its bytes are known, otherwise some input.
+-- Or the reader failed, and the archive has the state before. If nothing is posted or nothing is done, every row stays as it was.
+pub record Answered {K : Type 0} (Wants : List ℕ → State → Reaction) (stands : K → State → Type 0) (is_clean : K → Type 0)
     (leaves : K → List State → Type 0) (is_same : K → K → Type 0) (old new : K) (office : List ℕ) (unread left : Option (List ℕ)) (result : Result Response Failed) : Type 0 where
   pub input : List ℕ
   pub told : IfSome unread (λ all. input ≡ all)
@@ -133,11 +133,10 @@ pub record Answered {K : Type 0} (stands : K → State → Type 0) (is_clean is_
   pub posted : IsPosted input → command ≡ true
   pub is_posted : IfOk result (λ response. command ≡ true → IsPosted input)
   pub clean : is_clean new → is_clean old
-  pub live : is_clean new → IfOk result (λ response. is_done response.status ≡ true → is_live new)
   pub answers : is_clean new → (s : State) → stands old s
-      → MatchResult result (λ response. AnswersInput (stands new) (leaves new) command office input s (reply_of response)) (λ failed. stands new s)
+      → MatchResult result (λ response. AnswersInput (stands new) (leaves new) command s (Wants input s) (reply_of response)) (λ failed. stands new s)
   pub same : IsUndone command result → is_clean new → (s : State) → stands old s → is_same old new
-  pub crash : is_clean new → (s : State) (past : List State) → stands old s → leaves old past → CrashMayLeaveResult (leaves new) past (Reacts office input s) result
+  pub crash : is_clean new → (s : State) (past : List State) → stands old s → leaves old past → CrashMayLeaveResult (leaves new) past (Wants input s) result
   pub unfinished : IsErr result → IsUnfinished (MayAsk office) unread left
   pub known : is_clean new → (s : State) → stands old s → IsErr result → IsUnfinished (Asks s office) unread left
 
@@ -156,14 +155,14 @@ IsReplied old new reply (Err io.Write) = IsBegun old new reply
 IsReplied old new reply (Err io.Read) = new ≡ old
 
 -- the request was answered; or the reader failed, and the archive has the state before
-abbrev pub Settles : (State → Type 0) → (List State → Type 0) → Bool → List ℕ → List ℕ → State → Reply → Result Served IoFault → Type 0
-Settles stands leaves command office input s reply (Err io.Read) = stands s
-Settles stands leaves command office input s reply result = AnswersInput stands leaves command office input s reply
+abbrev pub Settles : (State → Type 0) → (List State → Type 0) → Bool → State → Reaction → Reply → Result Served IoFault → Type 0
+Settles stands leaves command s Wants reply (Err io.Read) = stands s
+Settles stands leaves command s Wants reply result = AnswersInput stands leaves command s Wants reply
 
 -- a crash may leave what it could leave before the call, or also the state after the reply; if the reader failed, only the former
-abbrev pub CrashMayLeaveServed : (List State → Type 0) → List State → List ℕ → List ℕ → State → Reply → Result Served IoFault → Type 0
-CrashMayLeaveServed leaves past office input s reply (Err io.Read) = leaves past
-CrashMayLeaveServed leaves past office input s reply result = CrashMayLeaveReply leaves past (Reacts office input s) reply
+abbrev pub CrashMayLeaveServed : (List State → Type 0) → List State → Reaction → Reply → Result Served IoFault → Type 0
+CrashMayLeaveServed leaves past Wants reply (Err io.Read) = leaves past
+CrashMayLeaveServed leaves past Wants reply result = CrashMayLeaveReply leaves past Wants reply
 
 -- the reader failed, or nothing was posted, or nothing was done
 abbrev pub IsUndoneBy : Bool → Reply → Result Served IoFault → Type 0
@@ -175,10 +174,10 @@ abbrev pub HasRead : Result Served IoFault → Type 0
 HasRead (Err io.Read) = ⊥
 HasRead result = Unit {0}
 
--- One request was read and one reply written; the input is the reader's, if its bytes are known, otherwise some input. If nothing is posted
--- or nothing is done, every row stays as it was.
-pub record Exchanged {K : Type 0} (stands : K → State → Type 0) (is_clean is_live : K → Type 0)
-    (leaves : K → List State → Type 0) (is_same : K → K → Type 0) (old new : K) (office : List ℕ) (unread before after : Option (List ℕ))
+-- One request was read, and one reply was written that `Wants` gives for the input: the reader's, if its bytes are known, otherwise some
+-- input. If nothing is posted or nothing is done, every row stays as it was.
+pub record Exchanged {K : Type 0} (Wants : List ℕ → State → Reaction) (stands : K → State → Type 0) (is_clean : K → Type 0)
+    (leaves : K → List State → Type 0) (is_same : K → K → Type 0) (old new : K) (unread before after : Option (List ℕ))
     (result : Result Served IoFault) : Type 0 where
   pub input : List ℕ
   pub told : IfSome unread (λ all. input ≡ all)
@@ -187,8 +186,7 @@ pub record Exchanged {K : Type 0} (stands : K → State → Type 0) (is_clean is
   pub is_posted : HasRead result → command ≡ true → IsPosted input
   pub reply : Reply
   pub replied : IsReplied before after reply result
-  pub live : is_clean new → IfOk result (λ served. is_done served.status ≡ true → is_live new)
-  pub settled : is_clean new → (s : State) → stands old s → Settles (stands new) (leaves new) command office input s reply result
+  pub settled : is_clean new → (s : State) → stands old s → Settles (stands new) (leaves new) command s (Wants input s) reply result
   pub same : IsUndoneBy command reply result → is_clean new → (s : State) → stands old s → is_same old new
   pub crash : is_clean new → (s : State) (past : List State) → stands old s → leaves old past
-      → CrashMayLeaveServed (leaves new) past office input s reply result
+      → CrashMayLeaveServed (leaves new) past (Wants input s) reply result

@@ -4,6 +4,7 @@ pub mod Asked
 pub mod Access
 pub mod Reply
 pub mod Serve
+pub mod Pages
 pub mod Answer
 pub mod Run
 pub mod Laws

@@ -7,7 +7,6 @@ use Rattle.tacho_desk.specs.Told.{Answer, Told, Added, bytes_of, told_text}
 use Rattle.tacho_sheet.specs.declared.fault.Fault.{Fault}
 use Rattle.tacho_sheet.specs.declared.fault.Fault.TheVariants as fault
 use Rattle.tacho_desk.specs.declared.want.MonthReading.TheVariants as month
-use Rattle.tacho_desk.specs.declared.want.Reading.TheVariants as reading
 use Rattle.tacho_desk.specs.declared.want.Want.{Want}
 use Rattle.tacho_desk.specs.declared.want.Want.TheVariants as want
 use Rattle.tacho_message.specs.Reply.{reply_bytes}

@@ -5,7 +5,7 @@ use Rattle.tacho_state.specs.State.{State}
 use Rattle.tacho_desk.specs.Doing.{Kept}
 use Rattle.tacho_http.specs.Answer.{IsBegun, IsPosted, IsWritten, is_done}
 use Rattle.tacho_http.specs.Reply.{Reply, reply_of_status}
-use Rattle.tacho_http.specs.Serve.{Reacts}
+use Rattle.tacho_http.specs.Serve.{Reaction}
 
 -- how a connection ended: it was answered, and counts; or only the writer failed, during the reply; or only the reader failed, and nothing
 -- was written
@@ -15,25 +15,25 @@ Ended old new Replies Stays false true count = (count ≡ 0) × ((reply : Reply)
 Ended old new Replies Stays true false count = (count ≡ 0) × Stays × (new ≡ old)
 Ended old new Replies Stays true true count = ⊥
 
--- a connection was answered: the input is the reader's, if its bytes are known, otherwise some bytes; the reply is one that the input may
--- get, and leads to the state after it; if the reader failed, nothing changed
-pub record Went (office : List ℕ) (unread old new : Option (List ℕ)) (reader_failed writer_failed : Bool) (count : ℕ) (s t : State) : Type 0 where
+-- a connection was answered: the input is the reader's, if its bytes are known, otherwise some bytes; the reply is one that `Wants` gives
+-- for it, and leads to the state after it; if the reader failed, nothing changed
+pub record Went (Wants : List ℕ → State → Reaction) (unread old new : Option (List ℕ)) (reader_failed writer_failed : Bool) (count : ℕ) (s t : State) : Type 0 where
   pub input : List ℕ
   pub told : IfSome unread (λ all. input ≡ all)
-  pub ended : Ended old new (λ reply. Reacts office input s reply t) (t ≡ s) reader_failed writer_failed count
+  pub ended : Ended old new (λ reply. Wants input s reply t) (t ≡ s) reader_failed writer_failed count
 
 -- the states that a crash may leave after a reply: those from before, or also the state after the reply, or, after 503, the state after
 -- some other reply; after a command that was done, only the state after it
-pub record Leaves (office input : List ℕ) (s : State) (reply : Reply) (t : State) (past future : List State) : Type 0 where
+pub record Leaves (input : List ℕ) (Wants : Reaction) (reply : Reply) (t : State) (past future : List State) : Type 0 where
   pub one : (future ≡ past) ⊎ ((future ≡ t ∷ []) ⊎ ((other : Reply) × (after : State) × ((other ≡ reply) ⊎ (reply ≡ reply_of_status status.Unavailable))
-      × Reacts office input s other after × (future ≡ after ∷ past)))
+      × Wants other after × (future ≡ after ∷ past)))
   pub kept : IsPosted input → is_done reply.status ≡ true → future ≡ t ∷ []
 
 -- likewise with the states that a crash may leave
-pub record WentKept (office : List ℕ) (unread old new : Option (List ℕ)) (reader_failed writer_failed : Bool) (count : ℕ) (a b : Kept) : Type 0 where
+pub record WentKept (Wants : List ℕ → State → Reaction) (unread old new : Option (List ℕ)) (reader_failed writer_failed : Bool) (count : ℕ) (a b : Kept) : Type 0 where
   pub input : List ℕ
   pub told : IfSome unread (λ all. input ≡ all)
-  pub ended : Ended old new (λ reply. Reacts office input a.state reply b.state × Leaves office input a.state reply b.state a.past b.past) (b ≡ a)
+  pub ended : Ended old new (λ reply. Wants input a.state reply b.state × Leaves input (Wants input a.state) reply b.state a.past b.past) (b ≡ a)
       reader_failed writer_failed count
 
 -- the connections in order, each from the state that the one before left, and the number of those that count

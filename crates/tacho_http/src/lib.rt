@@ -5,10 +5,11 @@ mod checks;
 mod connections;
 mod exchange;
 pub mod laws;
+mod pages;
 mod places;
 mod response;
 
-pub use connections::answer_all;
-pub use exchange::{IoFault, Served, answer, answer_by};
+pub use connections::{answer_all, answer_all_or_pages};
+pub use exchange::{IoFault, Served, answer, answer_or_page};
 pub use places::Routes;
-pub use tacho_message::Status;
+pub use tacho_message::{PageFile, Status};
