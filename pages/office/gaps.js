@@ -1,0 +1,251 @@
+// The gaps as a form, in local time. It sends UTC.
+import { h } from "/shared/dom.js";
+import { DAY, dateOf, localText, minuteOf, minutesOfLocal, textOf } from "/shared/time.js";
+import { addWords, length, localMoment, monthName, say } from "/shared/say.js";
+import { readDrivers, readEntries, readForm } from "/shared/read.js";
+import { ask, busy, button, head, momentField, notice, thisMonth, tool, unfinished } from "./office.js";
+import { command, field, isUnsure, refusal } from "./commands.js";
+import { many } from "/shared/words.js";
+
+const AUTHOR = "tacho.author", AUTHOR_BYTES = 64, NOTE_BYTES = 200, FEW = 60;
+
+/** A piece of a gap: what it is said to be (empty: left open), and by which paper.
+ * @typedef {{ start: number, past: number, activity: string, note: string }} Piece */
+
+/** Says at a field whether the archive would take its text: at most some bytes, without commas, double quotes and control characters.
+ * @type {(input: HTMLInputElement, most: number) => void} */
+function judge(input, most) {
+  const text = input.value.trim();
+  const isLong = new TextEncoder().encode(text).length > most;
+  input.setCustomValidity(isLong ? say.textTooLong(most) : /[\u0000-\u001f\u007f,"]/.test(text) ? say.textSigns : "");
+}
+
+/** A moment of a gap, and which of two it is in the hour that comes twice.
+ * @type {(minute: number) => string} */
+function momentText(minute) {
+  const all = minutesOfLocal(localText(minute));
+  return `${localMoment(minute, true)}${all.length === 2 ? ` (${say.nthTime(all.indexOf(minute))})` : ""}`;
+}
+
+/** The pieces of a gap, cut at the midnights of local time.
+ * @type {(piece: Piece) => Piece[]} */
+function byDays(piece) {
+  const pieces = [];
+  let start = piece.start;
+  while (start < piece.past) {
+    const next = dateOf(minuteOf(localText(start).slice(0, 10)) + DAY);
+    const past = Math.min(piece.past, minutesOfLocal(`${next} 00:00`)[0] ?? piece.past);
+    pieces.push({ ...piece, start, past });
+    start = past;
+  }
+  return pieces;
+}
+
+/** The CSV that `enter` takes.
+ * @type {(pieces: Piece[], author: string) => string} */
+const csvOf = (pieces, author) => `start,past,activity,author,note\n${pieces.map((one) =>
+  `${textOf(one.start)},${textOf(one.past)},${one.activity},${author},${one.note}\n`).join("")}`;
+
+/** Whether an entry is a piece that was sent.
+ * @type {(entry: any, piece: Piece, author: string) => boolean} */
+const isSame = (entry, piece, author) => entry.start === piece.start && entry.past === piece.past && entry.activity === piece.activity
+  && entry.author === author && entry.note === piece.note;
+
+/** The form of a driver's gaps. */
+class GapForm {
+  /**
+   * @param {string} driver
+   * @param {Piece[]} pieces
+   * @param {number} count how many entries there are
+   * @param {import("./office.js").Context} context
+   */
+  constructor(driver, pieces, count, context) {
+    Object.assign(this, { driver, pieces, count, context });
+    this.isSending = false;
+    this.list = h("div", {});
+    this.told = h("p", { role: "status", id: "gaps-told" });
+    const name = localStorage.getItem(AUTHOR) ?? "";
+    this.author = h("input", { id: "author", required: true, autocomplete: "name", value: name,
+      oninput: () => judge(this.author, AUTHOR_BYTES) });
+    this.save = h("button", { class: "main", id: "save" }, say.save);
+    this.node = h("form", { onsubmit: (event) => { event.preventDefault(); this.send(); } }, this.list,
+      h("div", { class: "row end" }, h("div", { class: "field" }, h("label", { for: "author" }, say.author), this.author), this.save),
+        this.told,
+      h("datalist", { id: "papers" }, say.papers.map((one) => h("option", { value: one }))));
+    this.draw();
+  }
+
+  /** @type {() => void} */
+  draw() {
+    this.list.replaceChildren(...this.pieces.map((piece, k) => this.rowOf(piece, k)));
+    this.tellCount();
+  }
+
+  /** @type {() => void} */
+  tellCount() {
+    const count = this.chosen().length;
+    this.told.textContent = say.rows(count);
+    this.save.disabled = count === 0 || this.isSending;
+    unfinished.delete("gaps");
+    if (count) unfinished.add("gaps");
+  }
+
+  /** @type {() => Piece[]} the pieces that are to be saved */
+  chosen() {
+    return this.pieces.filter((one) => one.activity);
+  }
+
+  /** @type {(piece: Piece, k: number) => HTMLElement} */
+  rowOf(piece, k) {
+    const pick = (value, text) => h("label", {}, h("input", {
+      type: "radio", name: `what-${k}`, value, checked: piece.activity === value,
+      onchange: () => { piece.activity = value; this.tellCount(); },
+    }), text);
+    const keep = () => { piece.note = note.value.trim(); judge(note, NOTE_BYTES); };
+    const note = h("input", { id: `note-${k}`, list: "papers", value: piece.note, oninput: keep });
+    return h("fieldset", { class: "gap" }, h("legend", { class: "hush" }, momentText(piece.start)),
+      h("div", {}, h("b", {}, `${momentText(piece.start)} ${say.to} ${momentText(piece.past)}`), h("br"),
+        h("span", { class: "note" }, `${length(piece.past - piece.start)} · ${textOf(piece.start)} ${say.to} ${textOf(piece.past)} UTC`)),
+      h("div", { class: "choice", role: "radiogroup", "aria-label": say.what },
+        pick("rest", say.rest), pick("work", say.work), pick("available", say.available), pick("drive", say.drive), pick("", say.skipRow)),
+      h("div", { class: "field" }, h("label", { for: `note-${k}` }, say.noteLabel), note), this.splitter(piece, k));
+  }
+
+  /** @type {(piece: Piece, k: number) => HTMLElement} divides a gap at a local time, or at each midnight */
+  splitter(piece, k) {
+    const cut = momentField(`cut-${k}`, say.splitAt, null), told = h("span", { class: "warn-text", role: "status" });
+    const input = cut.node.querySelector("input");
+    Object.assign(input, { required: false, min: localText(piece.start).replace(" ", "T"), max: localText(piece.past).replace(" ", "T") });
+    const split = () => {
+      const at = cut.minute();
+      if (at === null || at <= piece.start || at >= piece.past) { told.textContent = say.splitWithin; return; }
+      this.pieces.splice(k, 1, { ...piece, past: at }, { ...piece, start: at, activity: "" });
+      this.draw();
+    };
+    const days = byDays(piece);
+    const each = () => { this.pieces.splice(k, 1, ...days); this.draw(); };
+    return h("details", { class: "split" }, h("summary", {}, say.split),
+      h("div", { class: "row end" }, cut.node, button(say.split, split, { class: "small" }),
+      days.length > 1 && days.length <= FEW ? button(say.splitDays(days.length), each, { class: "small" }) : null, told));
+  }
+
+  /** Saves what was chosen, once.
+   * @type {() => Promise<void>} */
+  async send() {
+    const pieces = this.chosen(), author = this.author.value.trim();
+    if (this.isSending || pieces.length === 0) return;
+    this.isSending = true;
+    this.tellCount();
+    this.told.textContent = say.saving;
+    localStorage.setItem(AUTHOR, author);
+    try {
+      const { status, line } = await command(`/drivers/${this.driver}/entries`, csvOf(pieces, author));
+      if (status === 201 && /^entered \d+ to \d+$/.test(line)) this.isSaved(/^entered (\d+) to (\d+)$/.exec(line).slice(1));
+      else if (isUnsure(status)) await this.look(pieces, author);
+      else this.refused(refusal(status, line));
+    } catch (fault) {
+      if (fault.name !== "AbortError") await this.look(pieces, author);
+    }
+  }
+
+  /** @type {(numbers: (string | number)[]) => void} */
+  isSaved([first, last]) {
+    unfinished.delete("gaps");
+    this.context.again(notice("good", say.savedEntries(Number(first), Number(last))));
+  }
+
+  /** @type {(sentence: import("./office.js").Content) => void} */
+  refused(sentence) {
+    this.isSending = false;
+    this.tellCount();
+    this.told.replaceChildren(notice("bad", sentence));
+  }
+
+  /** After a broken connection: looks at what is there. Until that is known nothing can be sent again.
+   * @type {(pieces: Piece[], author: string) => Promise<void>} */
+  async look(pieces, author) {
+    this.told.textContent = say.looking;
+    try {
+      const entries = readEntries(await busy(ask(`/drivers/${this.driver}/entries`, this.context.signal)));
+      const added = entries.slice(this.count);
+      const found = added.filter((entry, k) => k < pieces.length && isSame(entry, pieces[k], author));
+      if (added.length > 0 && found.length === pieces.length) this.isSaved([found[0].number, found.at(-1).number]);
+      else if (added.length === 0) this.refused(say.notSaved);
+      else this.context.again(notice("warn", say.otherEntries));
+    } catch (fault) {
+      if (fault.name === "AbortError") return;
+      this.told.replaceChildren(notice("bad", say.unsureEntries, " ",
+        button(say.lookAgain, () => this.look(pieces, author), { class: "small" })));
+    }
+  }
+}
+
+/** @type {(context: import("./office.js").Context) => Promise<import("./office.js").Content>} */
+export async function page(context) {
+  const { signal, args: [driver] } = context;
+  const [person] = readDrivers(await ask(`/drivers/${driver}`, signal));
+  const gaps = readForm(await ask(`/drivers/${driver}/form`, signal)),
+    entries = readEntries(await ask(`/drivers/${driver}/entries`, signal));
+  const title = head([h("bdi", {}, person.name), `: ${say.gapsHead}`], tool(`/drivers/${driver}/entries`, say.entries),
+    tool(`/drivers/${driver}/${thisMonth()}`, monthName(thisMonth())));
+  if (gaps.length === 0) return [title, h("p", { class: "box good" }, say.noGapsAtAll)];
+  const form = new GapForm(driver, gaps.map((gap) => ({ ...gap, activity: "", note: "" })), entries.length, context);
+  return [title, h("p", {}, say.gapsHelp), h("p", { class: "note" }, say.workHelp), h("p", { class: "box" }, say.neverIllness), form.node];
+}
+
+// The sentences of this page
+
+addWords({
+  en: {
+    gapsHelp: "Times are local. Write only what a paper says (roster, leave list, printout), and name the paper.",
+    gapsHead: "Unknown hours",
+    save: "Save",
+    split: "Split",
+    skipRow: "leave open",
+    rows: (n) => `${many(n, "row", "rows")} will be saved.`,
+    neverIllness: "A note can't be deleted, and the driver can read it. Never write illness into it: “absent by list 7” is enough.",
+    workHelp: "Driving a car or van, workshop, course, loading: other work. Leave, illness, free time: rest.",
+    splitAt: "Split at (local time)",
+    splitWithin: "Choose a time within these hours.",
+    splitDays: (n) => `Split by days (${n})`,
+    papers: ["roster", "leave list", "printout", "workshop order"],
+    textTooLong: (n) => `At most ${n} bytes.`,
+    textSigns: "No comma, no double quote and no control character.",
+    saving: "Being saved …",
+    looking: "The connection broke. Looking at what is there …",
+    savedEntries: (a, b) => (a === b ? `Saved as entry ${a}.` : `Saved as entries ${a} to ${b}.`),
+    notSaved: "Nothing was saved. Try again.",
+    lookAgain: "Look again",
+    otherEntries: "The connection broke, and other entries were added meanwhile. The form shows what is still unknown; the entries "
+      + "show the rest.",
+    unsureEntries: "It isn't known whether this was saved. Before that is known, nothing can be sent.",
+    noGapsAtAll: "There are no gaps from the base to the end of what is known.",
+  },
+  de: {
+    gapsHelp: "Zeiten sind Ortszeit. Schreiben Sie nur, was ein Papier sagt (Dienstplan, Urlaubsliste, Ausdruck), und nennen Sie das "
+      + "Papier.",
+    gapsHead: "Unbekannte Stunden",
+    save: "Speichern",
+    split: "Teilen",
+    skipRow: "offen lassen",
+    rows: (n) => `${many(n, "Zeile wird", "Zeilen werden")} gespeichert.`,
+    neverIllness: "Eine Notiz kann nicht gelöscht werden, und der Fahrer kann sie lesen. Schreiben Sie nie eine Krankheit hinein: "
+      + "„abwesend nach Liste 7“ genügt.",
+    workHelp: "Auto oder Transporter fahren, Werkstatt, Kurs, Laden: andere Arbeit. Urlaub, Krankheit, Freizeit: Ruhe.",
+    splitAt: "Teilen um (Ortszeit)",
+    splitWithin: "Wählen Sie eine Zeit innerhalb dieser Stunden.",
+    splitDays: (n) => `Nach Tagen teilen (${n})`,
+    papers: ["Dienstplan", "Urlaubsliste", "Ausdruck", "Werkstattauftrag"],
+    textTooLong: (n) => `Höchstens ${n} Bytes.`,
+    textSigns: "Kein Komma, kein Anführungszeichen und kein Steuerzeichen.",
+    saving: "Wird gespeichert …",
+    looking: "Die Verbindung brach ab. Es wird nachgesehen, was da ist …",
+    savedEntries: (a, b) => (a === b ? `Gespeichert als Eintrag ${a}.` : `Gespeichert als Einträge ${a} bis ${b}.`),
+    notSaved: "Nichts wurde gespeichert. Versuchen Sie es noch einmal.",
+    lookAgain: "Noch einmal nachsehen",
+    otherEntries: "Die Verbindung brach ab, und inzwischen kamen andere Einträge hinzu. Das Formular zeigt, was noch unbekannt ist; "
+      + "die Einträge zeigen das Übrige.",
+    unsureEntries: "Es ist nicht bekannt, ob das gespeichert wurde. Bevor das bekannt ist, kann nichts gesendet werden.",
+    noGapsAtAll: "Vom Beginn der Prüfung bis zum Ende dessen, was bekannt ist, gibt es keine Lücken.",
+  },
+});

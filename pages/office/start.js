@@ -1,0 +1,218 @@
+// The start page: all drivers, most urgent first. What is left comes later, into cells that are there already.
+import { h } from "/shared/dom.js";
+import { DAY, localText, monthStep, now, textOf, tomorrow } from "/shared/time.js";
+import { addWords, daysSince, length, localMoment, localTime, monthName, say } from "/shared/say.js";
+import { readForecast, readStanding } from "/shared/tables.js";
+import { leftOf } from "/shared/read.js";
+import { ask, button, head, link, listRow, listTable, printButton, thisMonth, zoneLine } from "./office.js";
+import { many } from "/shared/words.js";
+
+const OVERDUE = 28, SOON = 21, GONE = 56, FEW_DAYS = 10, STALE = 4;
+
+/** @typedef {import("/shared/tables.js").Standing} Standing */
+/** @typedef {{ level: "bad" | "warn" | "look" | "good", text: string, to: string, by: number, rank: number }} Task */
+
+/** How many days ago the last known hour was.
+ * @type {(row: Standing) => number | null} */
+const ageOf = (row) => (row.held === null ? null : daysSince(row.held, now()));
+/** Whether the driver may have left: nothing records that.
+ * @type {(row: Standing) => boolean} */
+const mayHaveLeft = (row) => row.held !== null && ageOf(row) > GONE;
+/** @type {(row: Standing) => boolean} */
+const isDue = (row) => row.held === null || ageOf(row) > SOON;
+
+/** Whether the month is young, so that the one before is still of interest.
+ * @type {() => boolean} */
+const isEarly = () => Number(localText(now()).slice(8, 10)) <= FEW_DAYS;
+
+/** What is to be done first: the first that holds. Within one rank the least `by` is the most urgent.
+ * @type {(row: Standing) => Task} */
+function taskOf(row) {
+  const month = thisMonth(), before = monthStep(month, -1), age = ageOf(row), to = `/drivers/${row.driver}`;
+  const tasks = [
+    row.held === null && { level: "bad", text: row.files ? say.doNone : say.doNever, to: "/files", by: 0 },
+    age > OVERDUE && { level: "bad", text: say.doLate(age), to: "/files", by: -age },
+    age > SOON && { level: "warn", text: say.doSoon(OVERDUE - age), to: "/files", by: -age },
+    row.by !== null && row.by - now() < FEW_DAYS * DAY && { level: "warn", text: say.doDebt(localMoment(row.by)), to: `${to}/${month}`,
+      by: row.by },
+    row.unknown > 0 && { level: "warn", text: say.doGaps(length(row.unknown)), to: `${to}/gaps`, by: -row.unknown },
+    row.breaches > 0 && { level: "look", text: say.doBreaches(row.breaches), to: `${to}/${month}`, by: -row.breaches },
+    isEarly() && row.last_month > 0 && { level: "look", text: say.doBreachesIn(row.last_month, monthName(before)), to: `${to}/${before}`,
+      by: -row.last_month },
+    { level: "good", text: say.doNothing, to: `${to}/${month}`, by: 0 },
+  ];
+  const rank = tasks.findIndex((task) => task !== false);
+  return /** @type {Task} */ ({ ...tasks[rank], rank });
+}
+
+/** @type {Record<string, (row: Standing & { task: Task }) => boolean>} the rows that each sum counts */
+const FILTERS = {
+  all: () => true, download: isDue, gaps: (row) => row.unknown > 0, breaches: (row) => row.breaches > 0,
+    before: (row) => row.last_month > 0,
+  debts: (row) => row.debts > 0, fine: (row) => row.task.level === "good",
+};
+
+/** @type {(row: Standing) => import("./office.js").Content} the last known hour, and how long ago it was */
+function heldCell(row) {
+  if (row.held === null) return "–";
+  const age = ageOf(row);
+  return h("span", { class: "v" }, localMoment(row.held),
+    h("small", { class: age > OVERDUE ? "bad-text" : age > SOON ? "warn-text" : null }, ` ${say.ago(age)}`));
+}
+/** @type {(shown: boolean, value: () => string, more: () => string) => import("./office.js").Content} a value and a remark, or a dash */
+const withMore = (shown, value, more) => (shown ? h("span", { class: "v" }, value(), h("small", {}, ` ${more()}`)) : "–");
+/** @type {(isEmpty: (row: Standing) => boolean) => (row: Standing) => string} */
+const dimIf = (isEmpty) => (row) => (isEmpty(row) ? "quiet dim" : "");
+
+/** @type {(leftCells: Map<number, HTMLElement>) => import("./office.js").Column[]} */
+function columnsOf(leftCells) {
+  const month = thisMonth(), before = monthStep(month, -1);
+  const breachesOf = (name, which) => ({
+    head: say.colBreaches(monthName(which).split(" ")[0]), kind: "num", kindOf: dimIf((row) => row[name] === 0),
+    cell: (row) => (row[name] ? link(`/drivers/${row.driver}/${which}`, String(row[name])) : "–"),
+  });
+  return [
+    { head: say.colDriver, cell: (row) => [link(`/drivers/${row.driver}/${month}`, row.name), h("small", {}, ` ${row.driver}`)] },
+    { head: say.colFirst, kind: "first", cell: (row) => link(row.task.to, h("span", {}, row.task.text),
+      { class: `todo ${row.task.level}` }) },
+    { head: say.colHeld, kind: "when", kindOf: (row) => (row.held === null ? "quiet" : ""), cell: heldCell },
+    { head: say.colGaps, kind: "num", kindOf: dimIf((row) => row.unknown === 0),
+      cell: (row) => withMore(row.unknown > 0, () => length(row.unknown), () => say.inPlaces(row.gaps)) },
+    breachesOf("last_month", before), breachesOf("breaches", month),
+    { head: say.colDebts, kind: "num", kindOf: dimIf((row) => row.debts === 0),
+      cell: (row) => withMore(row.debts > 0, () => length(row.owes), () => `${say.before} ${localMoment(row.by)}`) },
+    { head: say.colLeft, kind: "num left-cell", cell: (row) => leftCells.get(row.driver) },
+  ];
+}
+
+/** The driving that is left, from a forecast: nothing where the last known hour is too old; and what isn't known is said.
+ * @type {(row: import("/shared/tables.js").Forecast) => import("./office.js").Content} */
+function leftText(row) {
+  if (row.held === null || row.ahead === null || row.ahead.start - row.held > STALE * DAY) return "–";
+  const left = leftOf(row.ahead);
+  const least = Math.min(...[left.day, left.week, left.isYoung ? null : left.two].filter((one) => one !== null));
+  return [link(`/drivers/${row.driver}/left`, length(least)), left.isYoung ? h("small", {}, ` ${say.twoUnknown}`) : null];
+}
+
+/** Fills the cells of what is left; `?` if that fails.
+ * @type {(cells: Map<number, HTMLElement>, signal: AbortSignal) => Promise<void>} */
+async function fillLeft(cells, signal) {
+  try {
+    const rows = readForecast(await ask(`/forecast/${textOf(tomorrow()).replace(" ", "/")}`, signal));
+    for (const row of rows) cells.get(row.driver)?.replaceChildren(...[leftText(row)].flat().filter((one) => one !== null));
+  } catch {
+    cells.forEach((cell) => cell.replaceChildren("?"));
+  }
+}
+
+/** The sums, as buttons that choose rows.
+ * @type {(rows: any[], show: (chosen: string) => void) => { node: HTMLElement, press: (chosen: string) => void }} */
+function sums(rows, show) {
+  const month = thisMonth(), before = monthStep(month, -1);
+  let chosen = "all";
+  const all = [["all", say.all, ""], ["download", say.sumDownload, "bad"], ["gaps", say.sumGaps, "warn"],
+    ...(isEarly() ? [["before", say.sumBreaches(monthName(before)), ""]] : []), ["breaches", say.sumBreaches(monthName(month)), ""],
+      ["debts", say.sumDebts, ""],
+    ["fine", say.sumFine, "good"]];
+  const buttons = all.map(([name, text, level]) => [name, h("button", {
+    type: "button", class: level, onclick: () => { chosen = chosen === name ? "all" : name; show(chosen); },
+  }, h("b", {}, String(rows.filter(FILTERS[name]).length)), text)]);
+  return {
+    node: h("ul", { class: "sums no-print" }, buttons.map(([, one]) => h("li", {}, one))),
+    press: (name) => buttons.forEach(([each, one]) => one.setAttribute("aria-pressed", String(each === name))),
+  };
+}
+
+/** @type {(rows: Standing[]) => import("./office.js").Content} the drivers of whom nothing has been known for long, folded */
+const goneList = (rows) => (rows.length === 0 ? null : h("details", { class: "gone" }, h("summary", {}, say.gone(rows.length, GONE)),
+  h("p", { class: "note" }, say.goneWhy),
+  h("ul", {}, rows.map((row) => h("li", {}, link(`/drivers/${row.driver}/${thisMonth()}`, row.name), ` (${row.driver}) · ${say.colHeld} `,
+    localMoment(row.held, true))))));
+
+/** @type {(context: import("./office.js").Context) => Promise<import("./office.js").Content>} */
+export async function page({ signal, again }) {
+  const standing = readStanding(await ask(`/standing/${thisMonth()}`, signal));
+  const rows = standing.filter((row) => !mayHaveLeft(row)).map((row) => ({ ...row, task: taskOf(row) }));
+  rows.sort((a, b) => a.task.rank - b.task.rank || a.task.by - b.task.by || a.driver - b.driver);
+  const leftCells = new Map(rows.map((row) => [row.driver, h("span", { class: "v" }, "…")]));
+  const columns = columnsOf(leftCells), body = h("tbody", { role: "rowgroup" }), count = h("p", { class: "note", role: "status" });
+  const show = (chosen) => {
+    const shown = rows.filter(FILTERS[chosen]);
+    body.replaceChildren(...shown.map((row) => listRow(columns, row)));
+    count.textContent = say.showing(shown.length, rows.length);
+    filters.press(chosen);
+  };
+  const filters = sums(rows, show), table = listTable(columns, rows, body);
+  show("all");
+  fillLeft(leftCells, signal);
+  return [head(say.startHead(localMoment(now(), true).slice(0, -6)), h("span", { class: "note" }, say.asOf(localTime(now()))),
+    button(say.again, () => again()), printButton()),
+  rows.length === 0 && standing.length === 0 ? h("p", { class: "box" }, say.noDriversYet, " ", link("/people", say.people))
+    : [filters.node, table, count],
+  goneList(standing.filter(mayHaveLeft)), zoneLine()];
+}
+
+// The sentences of this page
+
+addWords({
+  en: {
+    startHead: (when) => `Drivers on ${when}`,
+    sumDownload: "card files due",
+    sumGaps: "with unknown hours",
+    sumBreaches: (month) => `with breaches in ${month.split(" ")[0]}`,
+    sumDebts: "with rest to make up",
+    sumFine: "with nothing to do",
+    all: "drivers",
+    colFirst: "First to do",
+    colGaps: "Unknown hours",
+    colBreaches: (month) => `Breaches in ${month}`,
+    colDebts: "Rest to make up",
+    colLeft: "Driving left tomorrow",
+    ago: (n) => (n === 0 ? "today" : n === 1 ? "yesterday" : `${n} days ago`),
+    doNever: "Import the first card file",
+    doLate: (n) => `Card file ${many(n - 28, "day", "days")} overdue`,
+    doSoon: (n) => `Card file due in ${many(n, "day", "days")}`,
+    doGaps: (n) => `Fill in ${n} unknown`,
+    doDebt: (by) => `Rest to be made up before ${by}`,
+    doBreaches: (n) => `Look at ${many(n, "breach", "breaches")}`,
+    doNothing: "Nothing to do",
+    before: "before",
+    inPlaces: (n) => many(n, "gap", "gaps"),
+    showing: (n, all) => `${n} of ${all} drivers`,
+    asOf: (when) => `As of ${when}`,
+    doNone: "Import a newer card file",
+    doBreachesIn: (n, month) => `Look at ${many(n, "breach", "breaches")} in ${month}`,
+    gone: (n, days) => `${many(n, "driver", "drivers")} without a known hour for ${days} days`,
+    goneWhy: "The archive doesn't record that a driver has left. Whoever drives again needs a new card file.",
+  },
+  de: {
+    startHead: (when) => `Fahrer am ${when}`,
+    sumDownload: "Dateien fällig",
+    sumGaps: "mit unbekannten Stunden",
+    sumBreaches: (month) => `mit Verstößen im ${month.split(" ")[0]}`,
+    sumDebts: "mit auszugleichender Ruhezeit",
+    sumFine: "ohne Aufgabe",
+    all: "Fahrer",
+    colFirst: "Zuerst zu tun",
+    colGaps: "Unbekannte Stunden",
+    colBreaches: (month) => `Verstöße im ${month}`,
+    colDebts: "Auszugleichen",
+    colLeft: "Morgen noch Lenkzeit",
+    ago: (n) => (n === 0 ? "heute" : n === 1 ? "gestern" : `vor ${n} Tagen`),
+    doNever: "Erste Kartendatei einlesen",
+    doLate: (n) => `Kartendatei ${many(n - 28, "Tag", "Tage")} überfällig`,
+    doSoon: (n) => `Kartendatei fällig in ${many(n, "Tag", "Tagen")}`,
+    doGaps: (n) => `${n} klären: was war?`,
+    doDebt: (by) => `Ruhezeit auszugleichen vor ${by}`,
+    doBreaches: (n) => `${many(n, "Verstoß", "Verstöße")} ansehen`,
+    doNothing: "Nichts zu tun",
+    before: "vor",
+    inPlaces: (n) => many(n, "Lücke", "Lücken"),
+    showing: (n, all) => `${n} von ${all} Fahrern`,
+    asOf: (when) => `Stand ${when}`,
+    doNone: "Neuere Kartendatei einlesen",
+    doBreachesIn: (n, month) => `${many(n, "Verstoß", "Verstöße")} im ${month} ansehen`,
+    gone: (n, days) => `${many(n, "Fahrer", "Fahrer")} ohne bekannte Stunde seit ${days} Tagen`,
+    goneWhy: "Das Archiv hält nicht fest, dass ein Fahrer ausgeschieden ist. Wer wieder fährt, braucht eine neue Kartendatei.",
+  },
+});
