@@ -17,6 +17,18 @@ pub const NO_PORT: &str =
 pub const LOST: &str =
     "its file or its log was moved, replaced or cut during service, or its disk failed";
 
+/// The sentence if the place of a new archive is taken.
+pub const TAKEN: &str =
+    "it is there already, or a file with this name and -wal, .part or .part-wal after it; nothing was changed";
+
+/// The sentence if a new archive can't be made or put in its place.
+pub const NOT_MADE: &str =
+    "it cannot be made: its folder does not exist or may not be written, or its disk is full";
+
+/// The sentence if a driver can't be carried to a new archive.
+pub const NOT_CARRIED: &str =
+    "it cannot be read whole, or the new archive cannot be written; tacho check reads all of it";
+
 /// The sentence for a fault. docs/FORMATS.md lists them, 'All lines of faults'.
 pub fn advice_on(fault: Fault) -> &'static str {
     match fault {

@@ -14,13 +14,15 @@ use tacho_check::{Unsound, check, check_text};
 use tacho_cli::{CardFiles, DeskJob, answer_at_desk, import_files, read_input, tell_answer};
 use tacho_desk::{Fault, part_of};
 use tacho_disk::{NotOwned, Watched, cause_of, make_own};
-use tacho_serve::{Place, ServeFault, serve};
+use tacho_http::PageFile;
+use tacho_pages::page_files;
+use tacho_serve::{Place, ServeFault, listen, serve};
 use tacho_state::StoreFault;
 use tacho_store::Archive;
 use tacho_time::Device;
 
 /// A connection to a file.
-type FileConnection = Connection<FileStore<File>>;
+pub(crate) type FileConnection = Connection<FileStore<File>>;
 
 /// The megabytes above which a file is large.
 const LARGE: u64 = 20;
@@ -40,6 +42,8 @@ pub enum Work<'a> {
     Import { part: &'a str, names: &'a [String] },
     /// Answers `count` connections on a port of 127.0.0.1, with the office's key and those of drivers.
     Serve { key: &'a str, port: u16, count: u32 },
+    /// Does the same, and serves the pages. Prints the address of the office's page if somebody waits at a terminal.
+    Listen { key: &'a str, port: u16, count: u32 },
 }
 
 /// How a job ends. A line is printed once the file is closed.
@@ -204,7 +208,14 @@ impl Place for Files<'_> {
     }
 }
 
-/// `tacho serve`: answers `count` connections on a port of 127.0.0.1, at an existing archive.
+/// Tells who waits at a terminal where the office's page is.
+fn show_address(rt: &HostRuntime, port: u16) {
+    if rt.stderr().is_terminal() {
+        let _ = eprint!(rt; "tacho: http://127.0.0.1:{port}/office/\n");
+    }
+}
+
+/// `tacho serve`, and `tacho listen` with the page files: answers `count` connections on a port of 127.0.0.1, at an existing archive.
 fn serve_requests<S: Alter + Drop>(
     rt: &HostRuntime,
     conn: Connection<S>,
@@ -212,6 +223,7 @@ fn serve_requests<S: Alter + Drop>(
     key: &str,
     port: u16,
     count: u32,
+    files: &[PageFile],
 ) -> (Ending, Connection<S>)
     requires { conn.in_transaction ≡ false }
 {
@@ -219,10 +231,24 @@ fn serve_requests<S: Alter + Drop>(
         Ok(archive) => archive,
         Err(refusal) => return (refused(refusal.0), refusal.1),
     };
-    let Ok(files) = Watched::new(rt, path) else {
+    let Ok(watched) = Watched::new(rt, path) else {
         return (refused(StoreFault::Memory), archive.close());
     };
-    let ending = match serve(rt, &mut archive, &mut Files(files), key, port, count) {
+    let Ok(listener) = listen(rt, port) else {
+        return (Ending::NoPort, archive.close());
+    };
+    if !files.is_empty() {
+        show_address(rt, port);
+    }
+    let ending = match serve(
+        rt,
+        &mut archive,
+        &mut Files(watched),
+        key,
+        files,
+        &listener,
+        count,
+    ) {
         Ok(()) => Ending::Told(0, None),
         Err(ServeFault::Device) => Ending::NoPort,
         Err(ServeFault::Store) => Ending::Lost,
@@ -247,7 +273,10 @@ fn at_connection<S: Alter + Drop>(
         Work::Migrate => migrate_archive(conn),
         Work::Task(job) => do_task(rt, conn, job),
         Work::Import { part, names } => import_all(rt, conn, part, names),
-        Work::Serve { key, port, count } => serve_requests(rt, conn, path, key, port, count),
+        Work::Serve { key, port, count } => serve_requests(rt, conn, path, key, port, count, &[]),
+        Work::Listen { key, port, count } => {
+            serve_requests(rt, conn, path, key, port, count, &page_files())
+        },
     };
     (ending, Some(conn))
 }
@@ -261,7 +290,13 @@ fn open_file(rt: &HostRuntime, path: &str, work: Work<'_>) -> Result<FileConnect
             Err(NotOwned::File) => return Err(StoreFault::Store),
             Err(NotOwned::Memory) => return Err(StoreFault::Memory),
         }
-    } else if !matches!(fs::exists(rt, path), Ok(true)) {
+    }
+    connect(rt, path)
+}
+
+/// Opens an archive's file, which is there.
+pub(crate) fn connect(rt: &HostRuntime, path: &str) -> Result<FileConnection, StoreFault> {
+    if !matches!(fs::exists(rt, path), Ok(true)) {
         return Err(StoreFault::Store);
     }
     match Connection::open_with_sums(rt, path) {
@@ -272,7 +307,7 @@ fn open_file(rt: &HostRuntime, path: &str, work: Work<'_>) -> Result<FileConnect
 }
 
 /// Tells who waits at a terminal that a large file is opened, which takes seconds.
-fn announce(rt: &HostRuntime, path: &str) {
+pub(crate) fn announce(rt: &HostRuntime, path: &str) {
     let Ok(found) = fs::metadata(rt, path) else {
         return;
     };

@@ -3,8 +3,10 @@
 
 mod advice;
 mod archive;
+mod carrying;
 
 use crate::archive::{Work, at_file};
+use crate::carrying::carry_on;
 use std::alloc::AllocError;
 use std::env;
 use std::io::{self, ErrorKind, IsTerminal};
@@ -46,6 +48,7 @@ fn has_input(job: Job<'_>) -> bool {
         Job::Init { .. }
         | Job::Migrate { .. }
         | Job::Check { .. }
+        | Job::Carry { .. }
         | Job::Serve { .. }
         | Job::Version => false,
     }
@@ -66,6 +69,7 @@ fn run(rt: &HostRuntime, job: Job<'_>) -> u8 {
         Job::Init { archive } => at_file(rt, archive, Work::Create),
         Job::Migrate { archive } => at_file(rt, archive, Work::Migrate),
         Job::Check { archive } => at_file(rt, archive, Work::Check),
+        Job::Carry { archive, new, date } => carry_on(rt, archive, new, date),
         Job::AtDesk(job) => at_file(rt, job.archive, Work::Task(job)),
         Job::Serve { key, .. } if !is_key(key) => {
             refuse(rt, Fault::from(SheetFault::Column(Column::Key)))
@@ -83,7 +87,7 @@ fn run(rt: &HostRuntime, job: Job<'_>) -> u8 {
         } => match tacho_cli::office_key(alloc, &mut reader, &mut writer) {
             Ok(key) => {
                 let key = key.as_str();
-                at_file(rt, archive, Work::Serve { key, port, count })
+                at_file(rt, archive, Work::Listen { key, port, count })
             }
             Err(status) => status,
         },

@@ -1,7 +1,10 @@
 //! Answers requests over HTTP on a port of 127.0.0.1, one connection after the other, for any archive.
 #![tactic(auto)]
 
+mod accepting;
+mod held;
 mod serving;
 mod timed;
+mod waiting;
 
-pub use serving::{Place, ServeFault, serve};
+pub use serving::{Place, ServeFault, listen, serve};
