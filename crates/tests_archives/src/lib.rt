@@ -4,6 +4,8 @@
 #[cfg(test)]
 mod archives;
 #[cfg(test)]
+mod carries;
+#[cfg(test)]
 mod checked;
 #[cfg(test)]
 mod rows;

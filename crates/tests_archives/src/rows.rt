@@ -2,9 +2,9 @@
 
 use crate::step::Standing::{Kept, Withdrawn};
 use crate::step::Step::{
-    Adds, Enter, Has, HasName, HasNoEntries, HasNoLine, HasNoName, HasNoReport, Holds, IsListed,
-    IsNotListed, IsOf, Lacks, Lists, Rebase, Refuses, Register, Rekey, Rename, Repeats, Reports,
-    Withdraw,
+    Adds, Enter, Has, HasKey, HasName, HasNoEntries, HasNoKey, HasNoLine, HasNoName, HasNoReport,
+    Holds, IsListed, IsNotListed, IsOf, Lacks, Lists, Rebase, Refuses, Register, Rekey, Rename,
+    Repeats, Reports, Withdraw,
 };
 use crate::step::{Code, Listed, Pieces, Step};
 use crate::stretch_rows::{
@@ -60,7 +60,7 @@ const SATURDAY: &str = "0504000016000000000000001265eba68000010000600071e06258";
 const EMPTY: &str = "050400001000000000000000000000000000000000";
 
 /// What `DAY` gives.
-const THE_DAY: Pieces = &[
+pub(crate) const THE_DAY: Pieces = &[
     (0, 480, Activity::Rest),
     (480, 510, Activity::Work),
     (510, 1020, Activity::Drive),
@@ -763,10 +763,15 @@ const DRIVERS_HAVE_THEIR_NAMES: &[Step] = &[
 /// A key belongs to the driver who was registered with exactly these bytes; other bytes belong to nobody.
 const KEYS_ARE_OF_THEIR_DRIVERS: &[Step] = &[
     IsOf(b"anna-key-1", None),
+    HasNoKey(17, Code::S4),
     REGISTER_ANNA,
     IsOf(b"anna-key-1", Some(17)),
     IsOf(b"bert-key-1", None),
+    HasKey(17, "anna-key-1"),
+    HasNoKey(18, Code::S4),
     REGISTER_BERT,
+    HasKey(18, "bert-key-1"),
+    HasKey(17, "anna-key-1"),
     IsOf(b"bert-key-1", Some(18)),
     IsOf(b"anna-key-1", Some(17)),
     IsOf(b"anna-key-2", None),

@@ -103,6 +103,8 @@ pub(crate) enum Step {
     IsListed(u32, u8, u32, u32),
     /// A driver has this name.
     HasName(u32, &'static str),
+    /// A driver has this key.
+    HasKey(u32, &'static str),
     /// A driver's timeline is exactly these spans.
     Holds(u32, Pieces),
     /// A driver's entries are exactly these.
@@ -121,6 +123,8 @@ pub(crate) enum Step {
     IsNotListed(u32, Code),
     /// The reading of a driver's name is refused.
     HasNoName(u32, Code),
+    /// The reading of a driver's key is refused.
+    HasNoKey(u32, Code),
     /// The reading of a driver's timeline is refused.
     HasNoLine(u32, Code),
     /// The reading of a driver's entries is refused.
@@ -228,6 +232,9 @@ fn take_reading<K: Keeper>(
         Step::HasName(driver, name) => {
             assert!(rt; keeper.name(alloc, driver)?.as_str() == name, "{place}");
         }
+        Step::HasKey(driver, key) => {
+            assert!(rt; keeper.key(alloc, driver)?.as_str() == key, "{place}");
+        }
         Step::Holds(driver, pieces) => {
             assert_held(rt, alloc, place, &keeper.line(alloc, driver)?, pieces)?;
         }
@@ -277,6 +284,9 @@ fn take_refused<K: Keeper>(
         }
         Step::HasNoName(driver, code) => {
             assert_refused(rt, place, keeper.name(alloc, driver).err(), code);
+        }
+        Step::HasNoKey(driver, code) => {
+            assert_refused(rt, place, keeper.key(alloc, driver).err(), code);
         }
         Step::HasNoLine(driver, code) => {
             assert_refused(rt, place, keeper.line(alloc, driver).err(), code);
@@ -513,7 +523,7 @@ fn minute_of(minutes: u16) -> Minute {
 }
 
 /// Returns the day that is this many days after Monday.
-fn day_of(days: u8) -> Day
+pub fn day_of(days: u8) -> Day
     ensures { IsReadDay result }
 {
     Day::new(MONDAY + u32::from(days))

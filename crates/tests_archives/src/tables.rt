@@ -45,6 +45,12 @@ fn drivers_are_found_and_changed(rt: HostRuntime) -> Result<(), Fail> {
     making::make_all(&mut tx)?;
     drivers::insert(&mut tx, 17, &[0x0d, 0x44], "anna-key-1", 19_786, "Anna")?;
     drivers::insert(&mut tx, 18, &[0x0d, 0x45], "bert-key-1", 19_787, "Bert")?;
+    let secret = drivers::secret_of(&mut tx, 18)?;
+    assert!(&rt;
+        secret.is_some_and(|secret| secret.as_str() == "bert-key-1"),
+        "Bert"
+    );
+    assert!(&rt; drivers::secret_of(&mut tx, 19)?.is_none(), "nobody");
     assert_same(
         &rt,
         drivers::number_by_secret(&mut tx, b"bert-key-1")?,

@@ -235,7 +235,7 @@ fn writers_fail_at_each_call(rt: HostRuntime) -> Result<(), Fail> {
 }
 
 /// Arguments, and the job that they name.
-static JOBS: [(&[&str], Job<'static>); 39] = [
+static JOBS: [(&[&str], Job<'static>); 40] = [
     (&["tacho", "dump"], Job::Dump),
     (&["tacho", "holder"], Job::Holder),
     (&["tacho", "card", "first"], Job::Card { part: "first" }),
@@ -245,6 +245,14 @@ static JOBS: [(&[&str], Job<'static>); 39] = [
         Job::Migrate { archive: "a.db" },
     ),
     (&["tacho", "check", "a.db"], Job::Check { archive: "a.db" }),
+    (
+        &["tacho", "carry", "a.db", "b.db", "2024-03-04"],
+        Job::Carry {
+            archive: "a.db",
+            new: "b.db",
+            date: "2024-03-04",
+        },
+    ),
     (
         &["tacho", "register", "a.db"],
         Job::AtDesk(DeskJob {
@@ -673,6 +681,7 @@ fn words_name_jobs(rt: HostRuntime) -> Result<(), Fail> {
                     Job::Init { .. }
                         | Job::Migrate { .. }
                         | Job::Check { .. }
+                        | Job::Carry { .. }
                         | Job::Serve { .. }
                         | Job::Listen { .. }
                 ),
@@ -709,6 +718,7 @@ Commands:
   init       Creates an archive without drivers, in a new or empty file
   migrate    Converts an archive of an earlier schema to this program's; make a backup first
   check      Checks all rows of an archive: prints sound, or unsound with the first driver and table whose rows can't be right
+  carry      Makes an archive in a new file of what is needed from a day on; the old archive doesn't change
   register   Adds a driver: CSV with the head driver,holder,key,base,name
   import     Adds a driver's card file
   enter      Enters a driver's hours by hand: CSV with the head start,past,activity or start,past,activity,author,note

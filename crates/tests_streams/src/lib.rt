@@ -2,6 +2,8 @@
 #![tactic(auto)]
 
 #[cfg(test)]
+mod carried;
+#[cfg(test)]
 mod commands;
 #[cfg(test)]
 mod connections;
@@ -15,6 +17,8 @@ mod files;
 mod handovers;
 #[cfg(test)]
 mod heads;
+#[cfg(test)]
+mod pages;
 #[cfg(test)]
 mod readings;
 #[cfg(test)]
