@@ -4,30 +4,47 @@ with worked rows and with a slow office; and gives it bad arguments, bad files, 
 
 Standard error has to be empty but where the arguments name no command. Argument: the program. The last line is 'N passed, M failed'."""
 import contextlib
+import hashlib
 import itertools
 import os
 import pathlib
 import random
 import re
 import shutil
+import socket
 import sqlite3
 import subprocess
 import sys
 import tempfile
+import threading
+import time
+from collections.abc import Iterable, Sequence
 from typing import Any
 
 from inputs import random_cards
 from inputs.random_commands import hours_csv
-from lib import advice, counting, office_lines, office_rows, pools, programs, rules, seeds
+from lib import advice, counting, office_lines, office_rows, old_archive, pools, programs, rules, seeds
 from lib.advice import without_advice, without_known
+from lib.archive import of_tables
 from lib.commands import COMMANDS as TABLE
-from lib.files import TOP, content, read, write
+from lib.files import TOP, content, log_of, read, write
 from lib.office import (
-    CHANGES, COMMANDS, READINGS, STORE_FAILED, WITH_ANNA, WITH_DAY, Desk, make_text, name_of, of_refused_file, to_full, to_nobody,
+    CHANGES, COMMANDS, ENDINGS, READINGS, STORE_FAILED, WITH_ANNA, WITH_DAY, Desk, make_text, name_of, of_refused_file, readings_of_all,
+    to_full, to_nobody,
 )
+from lib.server import HOST, NO_PORT, OFFICE, SECONDS, Serving, free_port, posting
 from slow import slow_archive, slow_office, slow_reader
 
 SEEDS = seeds.tried(80)
+CARRY_SEEDS = seeds.tried(16)
+READINGS_OF_NEW = 16  # of the readings of each new archive
+
+# The worked rows that are tried at a new archive too. They have all commands but `key`, which the rows of CARRIES have.
+ROWS_OF_NEW = [
+    "a day", "arguments", "a second driver", "a range beside a file", "a week of quarters", "a report after each change", "a forecast",
+    "how a second driver stands", "how all drivers stand", "what all drivers owe", "all limits", "two Mondays",
+    "a form to a day by the base", "a handover", "a file by both its parts", "files and entries of a period",
+]
 PROCESSES = 2
 BITS = 40
 FREE_BYTES = range(72, 92)  # of a file of SQLite: no version of it reads them
@@ -51,6 +68,12 @@ NO_COMMANDS = [
     ["migrate", "PATH", "--all"],
     ["check"],
     ["check", "PATH", "17"],
+    ["carry"],
+    ["carry", "PATH"],
+    ["carry", "PATH", "PATH.new"],
+    ["carry", "PATH", "PATH.new", "2024-03-04", "17"],
+    ["carry", "PATH", "PATH.new", "2024-03-04", "--all"],
+    ["carry", "--since", "2024-03-04", "PATH", "PATH.new"],
     ["register"],
     ["register", "PATH", "17"],
     ["import", "PATH"],
@@ -138,6 +161,44 @@ def of_rows(program, name):
         yield desk.tables(name)
 
 
+def of_rows_at(desk: Desk, name: str, rows: Iterable[office_rows.Row]) -> counting.Comparisons:
+    """The comparisons of worked rows at an archive that is there, and of the slow office with what they say, and of the tables then."""
+    for number, row in enumerate(rows, 1):
+        wanted = row.text, row.status, b""
+        told, slow = desk.both(row.words, row.given)
+        yield f"{name}, row {number}: {name_of(row.words)}", told, wanted
+        yield f"{name}, row {number}: {name_of(row.words)}, by the slow office", slow, wanted
+    yield desk.tables(name)
+
+
+def of_carry(program: str, name: str, carry: office_rows.Carry) -> counting.Comparisons:
+    """The comparisons of worked rows at an archive, of the new one that is carried over from it, and of rows at that. The files of the old
+    archive stay as they are."""
+    with tempfile.TemporaryDirectory() as folder:
+        desk = Desk(program, folder)
+        desk.prepare(WITH_ANNA)
+        yield from of_rows_at(desk, f"{name}, before", carry.before)
+        before = contents_of(desk)
+        told, slow = desk.both(["carry", "new.db", carry.date])
+        yield f"{name}: carry", told, (carry.text.encode(), 0, b"")
+        yield f"{name}: carry, by the slow office", slow, (carry.text.encode(), 0, b"")
+        after = contents_of(desk)
+        yield f"{name}: the files", sorted(after), sorted([*before, "new.db"])
+        yield f"{name}: the old archive", {one: after.get(one) for one in before} == before, True
+        yield f"{name}: the mode", oct(os.stat(desk.beside("new.db")).st_mode), oct(0o100600)
+        yield from of_rows_at(desk.carried_to("new.db"), f"{name}, after", carry.after)
+        yield desk.tables(f"{name}, the old archive")
+
+
+def of_rows_carried(program: str, name: str) -> counting.Comparisons:
+    """The comparisons of worked rows at a new archive: that of a driver without card files and hours, or with the card file of the first
+    row. It has all that the old one has."""
+    rows = office_rows.ROWS[name]
+    count = int(rows[0] == office_rows.ADDED)
+    yield from of_carry(program, f"{name}, carried", office_rows.Carry(
+        rows[:count], f"2024-03-0{4 + count}", "carried 1 of 1 drivers\n", rows[count:]))
+
+
 def example_lines(number, row):
     """The lines that register a driver and enter what a worked example of the rules has for them."""
     holder = office_rows.HOLDER[:-6] + f"{number:06}"
@@ -190,6 +251,8 @@ def of_arguments(program):
             has_usage = all(isinstance(word, str) for word in words)
             yield f"arguments {words}", (text, status, errors.startswith(b"tacho: "), b"\nusage: tacho" in errors), (b"", 2, True, has_usage)
         yield desk.tables("after arguments that name no command")
+        left = [name for name in files_in(folder) if name != "archive.db-wal"]
+        yield "after arguments that name no command: the files", left, ["archive.db", "archive.db.folder"]
         for words in HELPS:
             text, status, errors = programs.told_by([program, *words])
             yield f"arguments {words}", (b"\n\nUsage: tacho " in text, status, errors), (True, 0, b"")
@@ -291,6 +354,231 @@ def of_rights(program):
         yield "a folder without rights: init", desk.run(["init"], **someone), STORE_FAILED
         yield "a folder without rights: the file", os.path.exists(desk.path), False
         os.chmod(folder, 0o755)
+
+
+# New archives that can't be made
+
+NEW = "new.db"
+NOT_SHAPED = "dates are written as 2024-03-04, months as 2024-03, times as 09:00"
+OUT_OF_RANGE = next(iter(advice.sentences()["Z3"]))
+TAKEN = "it is there already, or a file with this name and -wal, .part or .part-wal after it; nothing was changed"
+IN_USE = "probably another program has it open (is the service running? then ask it by a request); or it is damaged, or its disk is full"
+NOT_MADE = "it cannot be made: its folder does not exist or may not be written, or its disk is full"
+DATES = {
+    "Z1 not of the shape": (["2024-3-5", "2024-03", "2024-03-05 00:00", "", "5.3.2024", "2024-03-05 ", "x"], NOT_SHAPED),
+    "Z2 no such date": (["2024-02-30", "2023-02-29", "2024-13-01", "2100-02-29", "1999-02-30"], NOT_SHAPED),
+    "Z3 out of range": (["2000-01-02", "1999-12-31", "2100-01-01"], OUT_OF_RANGE),
+}
+
+
+def files_in(folder: str) -> list[str]:
+    """The names of all that is in a folder."""
+    return sorted(os.listdir(folder))
+
+
+def contents_of(desk: Desk) -> dict[str, tuple[int, str]]:
+    """All that is in an archive's folder, by its name: its kind and mode, and the digest of a file, or whither a link leads. Of the
+    archive's own log only if it has a commit."""
+    folder, found = os.path.dirname(desk.path), {}
+    for name in os.listdir(folder):
+        path = os.path.join(folder, name)
+        if path != desk.path + "-wal" or log_of(desk.path):
+            there = os.readlink(path) if os.path.islink(path) else hashlib.sha256(content(path) or b"").hexdigest()
+            found[name] = os.lstat(path).st_mode, there
+    return found
+
+
+def told_whole(words: Sequence[str], **others: Any) -> programs.Told:
+    """What a program prints, its status, and all that it prints on standard error."""
+    made = subprocess.run(words, input=b"", capture_output=True, **others)
+    return made.stdout, made.returncode, made.stderr
+
+
+def fault_of(line: str, status: int, path: str, sentence: str) -> programs.Told:
+    """What is printed after a fault, with the sentence for a person on a path."""
+    return f"{line}\n".encode(), status, f"tacho: {path}: {sentence}\n".encode()
+
+
+def of_refused_carry(desk: Desk, name: str, new: str, date: str, wanted: programs.Told, **others: Any) -> counting.Comparisons:
+    """The comparisons of a new archive that isn't made: what is printed, and that all that is there stays as it is."""
+    before = contents_of(desk)
+    yield f"carry, {name}", told_whole([desk.program, "carry", desk.path, new, date], **others), wanted
+    yield f"carry, {name}: what is there", contents_of(desk), before
+
+
+def make_taken(path: str, kind: str) -> None:
+    """Makes something at a path: a file, an empty one, a folder, a link to nothing, a link to a file, or a pipe."""
+    made = {"file": lambda: write(path, b"kept"), "empty": lambda: write(path, b""), "folder": lambda: os.mkdir(path),
+            "link": lambda: os.symlink("nowhere", path), "link to itself": lambda: os.symlink(os.path.basename(path), path),
+            "pipe": lambda: os.mkfifo(path)}
+    made[kind]()
+
+
+def remove_taken(path: str) -> None:
+    """Removes it."""
+    if os.path.isdir(path) and not os.path.islink(path):
+        os.rmdir(path)
+    else:
+        os.remove(path)
+
+
+OLD_FAULTS = {
+    "no archive": (lambda path: None, "S12 store failed", 3, "there is no such file; tacho init makes an archive"),
+    "a text": (make_text, "S12 store failed", 3, "it is not an archive"),
+    "a folder": (os.mkdir, "S12 store failed", 3, "it is not a file"),
+    "an archive of schema 1": (lambda path: old_archive.make(path, old_archive.example_rows()), "S13 old archive", 1,
+                               "the archive is of an earlier version: make a backup, then tacho migrate"),
+}
+
+
+def of_carry_faults(program: str) -> counting.Comparisons:
+    """The comparisons of the faults of `carry` and their order: the date is read first, then the old archive, then the new one."""
+    for name, (make, line, status, sentence) in OLD_FAULTS.items():
+        for taken in [None, "file"]:
+            with tempfile.TemporaryDirectory() as folder:
+                desk = Desk(program, folder)
+                make(desk.path)
+                new = desk.beside(NEW)
+                if taken:
+                    make_taken(new, taken)
+                name = f"{name}, beside a file" if taken else name
+                yield from of_refused_carry(desk, name, new, "2024-03-05", fault_of(line, status, desk.path, sentence))
+                yield from of_refused_carry(desk, f"{name}, no folder", desk.beside("none/new.db"), "2024-03-05",
+                                            fault_of(line, status, desk.path, sentence))
+                for fault, (dates, said) in DATES.items():
+                    yield from of_refused_carry(desk, f"{name}, {dates[0]}", new, dates[0], fault_of(fault, 1, desk.path, said))
+    with tempfile.TemporaryDirectory() as folder:
+        desk = Desk(program, folder)
+        desk.prepare(WITH_DAY)
+        new = desk.beside(NEW)
+        for fault, (dates, said) in DATES.items():
+            for date in dates:
+                yield from of_refused_carry(desk, f"a bad date, {date!r}", new, date, fault_of(fault, 1, desk.path, said))
+        for ending in ENDINGS:
+            for kind in ["file", "empty", "folder", "link", "link to itself", "pipe"]:
+                make_taken(new + ending, kind)
+                name = f"{kind} at NEW{ending}"
+                yield from of_refused_carry(desk, name, new, "2024-03-05", fault_of("S12 store failed", 3, new, TAKEN))
+                no_date = fault_of("Z2 no such date", 1, desk.path, NOT_SHAPED)
+                yield from of_refused_carry(desk, f"{name}, a bad date", new, "2024-02-30", no_date)
+                remove_taken(new + ending)
+        for path in [desk.path, desk.path + "-wal", folder, f"{folder}/", f"{folder}/."]:
+            yield from of_refused_carry(desk, f"to {path}", path, "2024-03-05", fault_of("S12 store failed", 3, path, TAKEN))
+        long = "n" * 250
+        for path in [desk.beside("none/new.db"), f"{desk.path}/new.db", desk.beside("none/"), desk.beside(long), desk.beside("n" * 256), "",
+                     "/proc/new.db"]:
+            yield from of_refused_carry(desk, f"to {path}", path, "2024-03-05", fault_of("S12 store failed", 3, path, NOT_MADE), cwd=folder)
+        yield desk.tables("after archives that weren't made")
+        yield "carry then", *desk.both(["carry", NEW, "2024-03-05"])
+        yield from of_refused_carry(desk, "once more", new, "2024-03-05", fault_of("S12 store failed", 3, new, TAKEN))
+
+
+def of_names_that_meet(program: str) -> counting.Comparisons:
+    """The comparisons of a new archive one of whose four files would be the old archive."""
+    for ending in ENDINGS[1:]:
+        with tempfile.TemporaryDirectory() as folder:
+            desk = Desk(program, folder)
+            desk.path = desk.beside(NEW + ending)
+            desk.prepare(WITH_DAY)
+            new = desk.beside(NEW)
+            yield from of_refused_carry(desk, f"from NEW{ending}", new, "2024-03-05", fault_of("S12 store failed", 3, new, TAKEN))
+            yield desk.tables(f"carry from NEW{ending}")
+
+
+def of_carry_rights(program: str) -> counting.Comparisons:
+    """The comparisons of a folder in which the user may make no file, of an old archive that they may not open, and of the mode of the new
+    archive, whatever the user's mask is."""
+    someone = {"user": "nobody", "group": "nogroup", "extra_groups": []} if os.geteuid() == 0 else {}
+    with tempfile.TemporaryDirectory() as folder:
+        os.chmod(folder, 0o755)
+        desk = Desk(shutil.copy(program, os.path.join(folder, "program")), folder)
+        desk.prepare(WITH_DAY)
+        for mask in [0o000, 0o022, 0o077]:
+            new = f"new-{mask:o}.db"
+            yield f"carry with the mask {mask:o}", desk.run(["carry", new, "2024-03-05"], umask=mask), (b"carried 1 of 1 drivers\n", 0, b"")
+            yield f"carry with the mask {mask:o}: the mode", oct(os.stat(desk.beside(new)).st_mode), oct(0o100600)
+        for name in [desk.path, desk.path + "-wal"]:
+            os.chmod(name, 0o666)
+        os.chmod(folder, 0o555)
+        new = desk.beside(NEW)
+        not_made = fault_of("S12 store failed", 3, new, NOT_MADE)
+        yield from of_refused_carry(desk, "in a folder without rights", new, "2024-03-05", not_made, **someone)
+        os.chmod(folder, 0o777)
+        os.chmod(desk.path, 0)
+        yield from of_refused_carry(desk, "of an archive without rights", new, "2024-03-05", fault_of(
+            "S12 store failed", 3, desk.path, "you have no permission to read and write it"), **someone)
+        os.chmod(folder, 0o755)
+        os.chmod(desk.path, 0o600)
+        yield desk.tables("an archive without rights")
+
+
+def of_carry_devices(program: str) -> counting.Comparisons:
+    """The comparisons of a new archive whose line can't be written: it is made. `carry` has no input, and paths may be relative."""
+    for name, run in [("a full device", to_full), ("a closed pipe", to_nobody)]:
+        with tempfile.TemporaryDirectory() as folder:
+            desk = Desk(program, folder)
+            desk.prepare(WITH_DAY)
+            desk.office.answer(["carry", NEW, "2024-03-05"])
+            yield f"carry to {name}", run(desk, ["carry", NEW, "2024-03-05"], b""), (3, b"")
+            yield desk.carried_to(NEW).tables(f"carry to {name}")
+            yield f"carry to {name}: the files", files_in(folder), ["archive.db", "archive.db-wal", NEW]
+    with tempfile.TemporaryDirectory() as folder:
+        desk = Desk(program, folder)
+        desk.prepare(WITH_DAY)
+        text, status = desk.office.answer(["carry", NEW, "2024-03-05"])
+        yield "carry waits for nobody", programs.unasked(desk.words(["carry", NEW, "2024-03-05"])), (text, status)
+        yield desk.carried_to(NEW).tables("carry without an input")
+        for words in [["archive.db", "other.db", "2024-03-05"], ["./archive.db", "./another.db", "2024-03-05"]]:
+            yield f"carry {name_of(words)}", told_whole([program, "carry", *words], cwd=folder), (text, status, b"")
+            yield of_tables(f"carry {name_of(words)}", desk.beside(words[1]), desk.office.made[NEW].archive)
+        os.mkdir(desk.beside("folder"))
+        os.symlink("folder", desk.beside("link"))
+        for new in ["folder/new.db", "link/other.db", "-", "a name", "\u00f6"]:
+            words = ["--", "archive.db", new, "2024-03-05"]
+            yield f"carry to {new}", told_whole([program, "carry", *words], cwd=folder), (text, status, b"")
+            yield of_tables(f"carry to {new}", desk.beside(new), desk.office.made[NEW].archive)
+
+
+def of_log(program: str) -> counting.Comparisons:
+    """The comparisons of an archive whose last commands are in its log alone, as a crash leaves them: they are carried, and neither file
+    changes. What another program has open isn't carried."""
+    with tempfile.TemporaryDirectory() as folder:
+        desk = Desk(program, folder)
+        desk.prepare(WITH_DAY)
+        with Serving(program, desk.path, OFFICE, 3) as serving:
+            for given in [office_rows.MORNING, office_rows.DAY_OFF]:
+                desk.office.answer(["enter", "17"], given)
+                serving.ask([posting("/drivers/17/entries", OFFICE, given)], False)
+            path = os.path.join(folder, "copy")
+            os.mkdir(path)
+            for ending in ["", "-wal"]:
+                shutil.copy(desk.path + ending, os.path.join(path, "archive.db" + ending))
+            in_use = fault_of("S12 store failed", 3, desk.path, IN_USE)
+            yield from of_refused_carry(desk, "of an archive that is served", desk.beside(NEW), "2024-03-05", in_use)
+        copy = Desk(program, path)
+        copy.office = desk.office
+        before = contents_of(copy)
+        yield "a log: whether it has a commit", log_of(copy.path) != b"", True
+        for date in ["2024-03-05", "2024-03-11", "2024-03-12"]:
+            yield f"a log: carry from {date}", *copy.both(["carry", f"{date}.db", date])
+            after = contents_of(copy)
+            yield f"a log: carry from {date}: the old archive", {one: after.get(one) for one in before} == before, True
+            yield copy.carried_to(f"{date}.db").tables(f"a log: carry from {date}")
+        yield copy.tables("a log")  # after which there is none: SQLite has copied it into the file
+        before = contents_of(copy)
+        yield "without a log: carry", *copy.both(["carry", NEW, "2024-03-12"])
+        yield "without a log: the old archive", {one: contents_of(copy).get(one) for one in before} == before, True
+
+
+def of_nobody(program: str) -> counting.Comparisons:
+    """The comparisons of an archive without drivers."""
+    with tempfile.TemporaryDirectory() as folder:
+        desk = Desk(program, folder)
+        desk.prepare([])
+        yield "carry nobody", desk.run(["carry", NEW, "2024-03-04"]), (b"carried 0 of 0 drivers\n", 0, b"")
+        desk.office.answer(["carry", NEW, "2024-03-04"])
+        yield desk.carried_to(NEW).tables("carry nobody")
+        yield from of_rows_at(desk.carried_to(NEW), "carry nobody", office_rows.NO_ANNA)
 
 
 # Devices
@@ -409,6 +697,34 @@ def of_terminals(program):
                 (STORE_FAILED[0], said)
 
 
+def knock(port):
+    """Makes a connection to a server once it listens, and ends it."""
+    last = time.monotonic() + SECONDS
+    while time.monotonic() < last:
+        with contextlib.suppress(ConnectionRefusedError), socket.create_connection((HOST, port), SECONDS):
+            return
+        time.sleep(0.01)
+
+
+def of_servers(program):
+    """The comparisons of servers of one connection at a terminal: `listen` says where the office's page is, once it listens."""
+    with tempfile.TemporaryDirectory() as folder:
+        desk = Desk(program, folder)
+        desk.prepare(WITH_ANNA)
+        for name, words, typed in [("listen", [], OFFICE.encode()), ("serve", [OFFICE], None)]:
+            port = free_port()
+            address = b"tacho: http://127.0.0.1:%d/office/\n" % port
+            client = threading.Thread(target=knock, args=(port,))
+            client.start()
+            found = at_terminal([program, name, desk.path, *words, str(port), "1"], typed and typed + b"\n")
+            client.join()
+            yield f"at a terminal: {name}", found, (b"", READS + address if typed else b"")
+        with socket.create_server((HOST, free_port())) as server:
+            line = [program, "listen", desk.path, str(server.getsockname()[1]), "1"]
+            text, errors = at_terminal(line, OFFICE.encode() + b"\n")
+            yield "at a terminal: a port that is taken", (text, b"/office/" in errors), (NO_PORT[0], False)
+
+
 def of_sentences():
     """The comparison of the sentences for a person in the code with those of docs/FORMATS.md."""
     sources = [os.path.join(TOP, "crates", *path) for path in (("tacho", "src", "advice.rt"), ("tacho_disk", "src", "cause.rt"))]
@@ -499,6 +815,39 @@ def of_seed(program, seed):
                 yield desk.tables(name)
 
 
+def of_carry_seed(program: str, seed: int) -> counting.Comparisons:
+    """The comparisons of a seed's lines with `carry` among them. Each new archive is read, and the lines that follow are given to the last
+    of them too."""
+    chance = random.Random(f"carry {seed}")
+    with tempfile.TemporaryDirectory() as folder:
+        desk = Desk(program, folder)
+        desk.prepare([])
+        new: Desk | None = None
+        for number, (words, given) in enumerate(office_lines.CarryLines(seed).lines(), 1):
+            name = f"carry, seed {seed}, line {number}: {name_of(words)}"
+            before = contents_of(desk)
+            told, wanted = desk.both(words, given)
+            yield name, told, wanted
+            if words[0] == "carry" and wanted[1] == 0:
+                after = contents_of(desk)
+                yield f"{name}: the files", sorted(after), sorted([*before, words[1]])
+                yield f"{name}: the files before", {one: after.get(one) for one in before} == before, True
+                if new is not None:
+                    yield new.tables(f"{name}: the new archive before it")
+                new = desk.carried_to(words[1])
+                yield new.tables(name)
+                readings = readings_of_all(new.office, chance)
+                for reading in chance.sample(readings, min(READINGS_OF_NEW, len(readings))):
+                    yield f"{name}, then {name_of(reading)}", *new.both(reading)
+            elif words[0] == "carry":
+                yield f"{name}: the files", contents_of(desk), before
+            elif new is not None:
+                yield f"{name}, at the new archive", *new.both(words, given)
+        yield desk.tables(f"carry, seed {seed}")
+        if new is not None:
+            yield new.tables(f"carry, seed {seed}, the new archive")
+
+
 # All
 
 
@@ -506,9 +855,15 @@ def comparisons(program: str) -> counting.Comparisons:
     program = os.path.abspath(program)
     questions: list[tuple[Any, ...]] = [(of_rows, program, name) for name in office_rows.ROWS]
     questions += [(part, program) for part in [
-        of_examples, of_arguments, of_kinds, of_files, of_folders, of_terminals, of_rights, of_outputs, of_inputs, of_cards, of_bits]]
+        of_examples, of_arguments, of_kinds, of_files, of_folders, of_terminals, of_servers, of_rights, of_outputs, of_inputs, of_cards,
+        of_bits]]
+    questions += [(of_carry, program, name, carry) for name, carry in office_rows.CARRIES.items()]
+    questions += [(of_rows_carried, program, name) for name in ROWS_OF_NEW]
+    questions += [(part, program) for part in [
+        of_carry_faults, of_names_that_meet, of_carry_rights, of_carry_devices, of_log, of_nobody]]
     questions += [(of_sentences,)]
     questions += [(of_seed, program, seed) for seed in range(SEEDS)]
+    questions += [(of_carry_seed, program, seed) for seed in range(CARRY_SEEDS)]
     yield from pools.of_questions(questions, PROCESSES)
 
 

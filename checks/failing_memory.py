@@ -21,6 +21,8 @@ RUNS = [
     (["card", "whole"], DAY),
     (["migrate", "/no/archive.db"], b""),
     (["check", "/no/archive.db"], b""),
+    (["carry", "/no/archive.db", "/no/new.db", "2024-03-04"], b""),
+    (["carry", "/no/archive.db", "/no/new.db", "2024-02-30"], b""),
     ([], b""),
     (["help"], b""),
 ]

@@ -22,7 +22,7 @@ from inputs.mutated_inputs import NO_TEXT, PATH
 from lib import counting, programs, seeds
 from lib.files import content
 from lib.commands import COMMANDS
-from lib.office import STORE_FAILED, Desk
+from lib.office import ENDINGS, STORE_FAILED, Desk
 from lib.office_rows import ANNA, CARD, DAY, DRIVER_HEAD, HOLDER
 from lib.server import asked_of, of_asked, server_after
 from slow import slow_archive, slow_office, slow_reader
@@ -54,6 +54,11 @@ KEPT = [
     (LINES, b"form PATH 17 -- 2024-03-05", "two hyphens before a date that may be left out"),
     (LINES, b"handover PATH 17 -- 2024-03-01 2024-04-01", "two hyphens before a period"),
     (LINES, b"handover PATH 18 2024-03-02 2024-03-01", "a period that ends before it begins, of an unknown driver"),
+    (LINES, b"carry -- PATH new.db 2024-03-04", "two hyphens before the path of an archive that is carried over"),
+    (LINES, b"carry PATH new.db -- 2024-03-05", "two hyphens before the day from which it is"),
+    (LINES, b"carry PATH PATH 2024-03-05", "an archive that would be carried into itself"),
+    (LINES, b"carry PATH none/new.db 2024-03-05", "a new archive in a folder that isn't there"),
+    (LINES, b"carry no-archive new.db 2024-3-5", "a day that is none, before an archive that isn't there"),
     (LINES, b"import PATH both\n" + bytes.fromhex(CARD + "0504000010" "00000000" "0000000d") + bytes(8), "a record of 13 bytes"),
     (REQUESTS, b"\n\r\nGET /drivers/17/breaches HTTP/1.0\nX-KEY:office-key-1\n\r\n\0GET", "ends of lines of both forms"),
 ]
@@ -144,10 +149,39 @@ def names_files(words):
 
 
 def imported(office, path, archive, part, *names):
-    """What the import of files prints, and its status. No file is there but the archive's own."""
-    if archive != PATH:
+    """What the import of files prints, and its status. No file is there but those of archives."""
+    known = offices_of(office).get(archive.removeprefix("./"))
+    if known is None:
         return STORE_FAILED[:2]
-    return office.import_files(part, [(path, content(path)) if name == PATH else (name, None) for name in names])
+    named = [path if name == PATH else name for name in names]
+    return known.import_files(part, [(name, content(os.path.join(os.path.dirname(path), name))) for name in named])
+
+
+def offices_of(office: slow_office.Office) -> dict[str, slow_office.Office]:
+    """The slow offices by the paths of their archives: the first one, and those of the archives that were made of it by `carry`."""
+    return {PATH: office, **office.made}
+
+
+def can_be_made(folder: str, new: str) -> bool:
+    """Whether a new archive can be made at a path in a folder: its folder is there, its names aren't too long, and nothing has them."""
+    names = [os.path.join(folder, new + ending) for ending in ENDINGS]
+    fits = all(len(os.path.basename(name).encode(errors="surrogatepass")) <= 255 and len(name) < 4_096 for name in names)
+    return fits and os.path.basename(new) != "" and os.path.isdir(os.path.dirname(names[0])) and not any(map(os.path.lexists, names))
+
+
+def carried(office: slow_office.Office, path: str, archive: str, new: str, date: str) -> tuple[bytes, int]:
+    """What `carry` prints, and its status: first the day is read, then the old archive, and then the new one is made."""
+    try:
+        slow_office.day_of(date)
+    except slow_reader.Fault as fault:
+        return f"{fault}\n".encode(), 1
+    old = offices_of(office).get(archive.removeprefix("./"))
+    if old is None or new == PATH or not can_be_made(os.path.dirname(path), new):
+        return STORE_FAILED[:2]
+    told = old.answer(["carry", new.removeprefix("./"), date])
+    office.made.update(old.made)
+    old.made = office.made
+    return told
 
 
 def answer_to(office, path, words, given):
@@ -166,7 +200,10 @@ def answer_to(office, path, words, given):
         return programs.version_lines(), 0
     if name in ("dump", "holder", "card"):
         return without_archive(name, given, *values)
-    return office.answer([name, *values[1:]], given) if values[0] == PATH and name != "init" else STORE_FAILED[:2]
+    if name == "carry":
+        return carried(office, path, *values)
+    known = offices_of(office).get(values[0].removeprefix("./"))
+    return known.answer([name, *values[1:]], given) if known and name != "init" else STORE_FAILED[:2]
 
 
 def of_lines(program, name, office, lines):
@@ -183,6 +220,8 @@ def of_lines(program, name, office, lines):
                 wanted = told[0] or b"help", 0
             yield Tried(f"{name}: {shown(number, words, given)}", told, (*wanted, wanted == USAGE), [answer_of(*wanted)])
         yield Tried(*desk.tables(name), [])
+        for new in office.made:
+            yield Tried(*desk.carried_to(new).tables(f"{name}: {new}"), [])
 
 
 # Requests

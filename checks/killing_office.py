@@ -4,10 +4,11 @@ while it serves requests that change it. Then it looks at what is left.
 
 SQLite itself has to find, in a copy of the file and its log, the tables as they were before the command that was ended, or as they are
 after it, and after it where it has answered; and of requests those of all that were answered, and perhaps of the next one. Then the
-program has to answer as a slow office does in that state, and the same once more is answered as there. Half of the ends come at any
-time and half after a change of the files, and some of them while the program opens what another end has left. Argument: the program;
-after it may stand how many lists of commands and of requests there are, as `--rounds N`, and the seed of the first, as `--first SEED`.
-The last line is 'N passed, M failed'."""
+program has to answer as a slow office does in that state, and the same once more is answered as there. A `carry` that is ended leaves the
+old archive as it was, and beside it the new archive whole, or no more of it than its unfinished file and log, by which the next one is
+refused. Half of the ends come at any time and half after a change of the files, and some of them while the program opens what another end
+has left. Argument: the program; after it may stand how many lists of commands and of requests there are, as `--rounds N`, and the seed of
+the first, as `--first SEED`. The last line is 'N passed, M failed'."""
 import argparse
 import multiprocessing
 import os
@@ -24,8 +25,8 @@ from typing import Any
 from inputs import random_commands, random_requests
 from lib import counting, files, killing, office_lines
 from lib.advice import without_begun, without_sentence
-from lib.archive import rows_of, rows_of_office, tables
-from lib.office import CREATED, STORE_FAILED, Desk, copy_of, name_of
+from lib.archive import of_tables, rows_of, rows_of_office, tables
+from lib.office import CREATED, ENDINGS, STORE_FAILED, Desk, copy_of, name_of
 from lib.server import ENDED, Serving, received, sent
 from slow import slow_office, slow_reader, slow_server
 
@@ -33,6 +34,8 @@ ROUNDS = 6
 PROCESSES = 2
 REQUESTS = 30  # of a list
 MOST_REQUESTS = 5  # of a server that is ended
+NEW = "new.db"
+CARRYINGS = 20  # ends of a list's `carry`
 MAKINGS = 4  # archives of a list that are made, the last of which is used
 OTHERS_LEFT = 0.2  # of a list: of the readings, and of the commands that change nothing
 CHANGED = re.compile(rb"registered|added|entered [0-9]|withdrawn|base |key |name ")
@@ -119,6 +122,12 @@ class KilledDesk(Desk):
 
         replies, told, _ = self.served(self.path, requests, key, end)
         return replies, told
+
+    def at(self, path: str) -> Desk:
+        """The program at another archive."""
+        desk = Desk(self.program, os.path.dirname(path))
+        desk.path = path
+        return desk
 
     # What they leave
 
@@ -314,6 +323,91 @@ def of_serving(desk, seed):
         requests = requests[done:]
 
 
+# New archives that are made
+
+
+class Carrying:
+    """An archive in a folder that is carried over to a new one by a command which is ended at a random moment."""
+
+    def __init__(self, desk: KilledDesk, date: str) -> None:
+        self.desk = desk
+        self.date = date
+        self.new = desk.beside(NEW)
+        self.office = slow_office.Office(desk.office.archive)
+        self.wanted = self.office.answer(["carry", NEW, date])
+        self.old = files.both_of(desk.path)
+
+    def made(self) -> list[str]:
+        """The endings of the names of those of the new archive's four files that are there."""
+        return [ending for ending in ENDINGS if os.path.lexists(self.new + ending)]
+
+    def remove(self) -> None:
+        """Removes what is there of the new archive."""
+        for ending in self.made():
+            os.remove(self.new + ending)
+
+    def running(self) -> subprocess.Popen[bytes]:
+        """The command, which runs."""
+        return self.desk.started(self.desk.path, ["carry", self.new, self.date], b"")
+
+    def measured(self) -> tuple[float, int]:
+        """How long it takes if nobody ends it, in seconds, and how often it changes its files."""
+        start = time.monotonic()
+        with self.running() as running:
+            count = killing.watch(running, self.new + ".part", sys.maxsize)
+        return time.monotonic() - start, count
+
+    def tables(self, name: str) -> counting.Comparison:
+        """The comparison of the tables of the new archive with those that it has to have."""
+        return of_tables(name, self.new, self.office.made[NEW].archive)
+
+    def of_end(self, name: str, seconds: float, count: int) -> counting.Comparisons:
+        """The comparisons of what an end leaves: the old archive as it was, and at most the unfinished one, or the new one whole."""
+        with self.running() as running:
+            killing.wait(running, self.new + ".part", self.desk.chance, seconds, count)
+            killing.end(running)
+        text = files.content(os.path.join(self.desk.aside, "output")) or b""
+        made = self.made()
+        yield f"{name}: what is printed", text, text if running.returncode == KILLED and self.wanted[0].startswith(text) else self.wanted[0]
+        is_whole = made == [""]
+        yield f"{name}: the files", made, made if is_whole or {*made} <= {".part", ".part-wal"} else "the new one, or the unfinished one"
+        yield f"{name}: the old archive", files.both_of(self.desk.path) == self.old, True
+        yield f"{name}: whether it is there, once it is said", is_whole or not text, True
+        yield from self.of_next(name, made)
+        self.desk.kinds.add(("carry", "after" if is_whole else "unfinished" if made else "before"))
+
+    def of_next(self, name: str, made: list[str]) -> counting.Comparisons:
+        """The comparisons of the next command of the same arguments: it is refused by what is there, and changes nothing of it."""
+        before = {ending: files.content(self.new + ending) for ending in made}
+        told = self.desk.run(["carry", NEW, self.date])
+        yield f"{name}, and again", told, STORE_FAILED if made else (*self.wanted, b"")
+        if made:
+            after = {ending: files.content(self.new + ending) for ending in self.made()}
+            yield f"{name}, and again: the files", after == before, True
+        if made == [""] or not made:
+            yield self.tables(name)
+            yield f"{name}: check", self.desk.at(self.new).run(["check"]), (b"sound\n", 0, b"")
+        self.remove()
+
+
+def of_carrying(desk: KilledDesk, seed: int) -> counting.Comparisons:
+    """The comparisons of a seed's new archive: the command is ended some times, and at last nobody ends it."""
+    desk.prepare([])
+    for words, given in lines_of(seed, desk.chance):
+        desk.both(words, given)
+    days = [minute // 1440 for driver in desk.office.archive.drivers.values() for minute in driver.held()]
+    day = min(desk.chance.choice([min(days), desk.chance.choice(days)]), slow_reader.READ_DAYS.stop - 1)
+    carrying = Carrying(desk, random_commands.date_text(day))
+    seconds, count = carrying.measured()
+    carrying.remove()
+    for place in range(CARRYINGS):
+        yield from carrying.of_end(f"seed {seed}, carry from {carrying.date}, end {place}", seconds, count)
+    yield f"seed {seed}, carry at last", desk.run(["carry", NEW, carrying.date]), (*carrying.wanted, b"")
+    yield f"seed {seed}, carry at last: the files", carrying.made(), [""]
+    yield carrying.tables(f"seed {seed}, carry at last")
+    yield f"seed {seed}, carry at last: the old archive", files.both_of(desk.path) == carrying.old, True
+
+
 # All
 
 
@@ -328,7 +422,7 @@ def of_question(question):
 def comparisons(program: str, rounds: int, first: int) -> counting.Comparisons:
     program = os.path.abspath(program)
     seeds = range(first, first + rounds)
-    questions: list[tuple[Any, ...]] = [(part, program, seed) for seed in seeds for part in (of_commands, of_serving)]
+    questions: list[tuple[Any, ...]] = [(part, program, seed) for seed in seeds for part in (of_commands, of_serving, of_carrying)]
     kinds = set()
     with multiprocessing.Pool(PROCESSES) as pool:
         for found, left in pool.imap(of_question, questions):
@@ -339,6 +433,7 @@ def comparisons(program: str, rounds: int, first: int) -> counting.Comparisons:
     both = [word for word in [*CHANGING, "serve"] if {(word, "before"), (word, "after")} <= kinds]
     yield "whether ends have left a command undone and done", any(word != "serve" for word in both), True
     yield "whether ends have left a request undone and done", "serve" in both, True
+    yield "what ends of carry have left", sorted(kind for word, kind in kinds if word == "carry"), ["after", "before", "unfinished"]
 
 
 def arguments() -> argparse.Namespace:

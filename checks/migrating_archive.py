@@ -1,11 +1,11 @@
 #!/usr/bin/env python3
-"""Gives the program archives of schema 1, each of which every command but `migrate` has to refuse, has them carried over to schema 2, and
+"""Gives the program archives of schema 1, each of which every command but `migrate` has to refuse, has them migrated to schema 2, and
 compares each row with that of the old file and all answers after that with a slow office. A migration is also ended at many moments:
 what is left has to be the old archive or the new one, and the next migration ends it.
 
 SQLite itself writes the old archives (lib/old_archive.py), and reads the new ones: worked ones, that of examples/archive-schema-1.sql, and
 what random command lines have left, with thousands of entries in some. Arguments: the program and, for longer lists of commands at
-archives that were carried over, `tool_script`. The last line is 'N passed, M failed'."""
+archives that were migrated, `tool_script`. The last line is 'N passed, M failed'."""
 import contextlib
 import datetime
 import multiprocessing
@@ -22,7 +22,7 @@ from typing import Any
 from inputs import random_commands
 from lib import counting, files, killing, office_lines, office_rows, old_archive, pools, programs
 from lib.advice import without_any
-from lib.archive import CARRIED_TABLES, of_tables, rows_at, rows_of, sound
+from lib.archive import MIGRATED_TABLES, of_tables, rows_at, rows_of, sound
 from lib.files import EXAMPLES
 from lib.office import CHANGES, COMMANDS, STORE_FAILED, WITH_ANNA, Desk, of_refused_file, to_full, to_nobody
 from lib.office_rows import DAY_OFF, DAY_OFF_LINE, FREE_LINE, LONG_NOTE, NO_AUTHOR, SATURDAY, done, refused
@@ -36,6 +36,7 @@ PROCESSES = 2
 KILLS, ROUNDS = 200, 8  # 200 in all, in 8 lists
 SECONDS = 60
 EXAMPLE = os.path.join(EXAMPLES, "archive-schema-1.sql")
+NEW = "new.db"  # in whose place `carry` makes none of an old archive
 OLD = (b"S13 old archive\n", 1, b"")
 MIGRATED = (b"migrated\n", 0, b"")
 
@@ -46,7 +47,7 @@ BAD_COMMANDS += ["sheet 17 2024-13", "breaches 18", "file 17 2", "handover 17 20
 # The readings of all drivers.
 OF_ALL = [["drivers"], ["forecast", "2024-03-05", "12:00"], ["standing", "2024-03"]]
 
-# In the archive of one driver, before it is carried over and after that.
+# In the archive of one driver, before it is migrated and after that.
 ENTERED = [(["enter", "17"], office_rows.FREE_DAYS), (["withdraw", "17", "1"], b"")]
 
 FIRST = [*WITH_ANNA, *ENTERED, (["import", "both"], SATURDAY)]
@@ -88,14 +89,14 @@ class OldDesk(Desk):
         files.write(self.path, self.whole)
 
     def old(self):
-        """What SQLite finds in the file before it is carried over."""
+        """What SQLite finds in the file before it is migrated."""
         return rows_of(sound(old_archive.TABLES, self.rows))
 
     def new(self):
         """What it has to find in it after that: each row as it was, and each entry by the office, without a note."""
         entries = [(*row, "office", "") for row in self.rows["entries"]]
         rows = {**self.rows, "meta": [(1, 2)], "entries": [], "entry_rows": entries}
-        return rows_of(sound(CARRIED_TABLES, rows))
+        return rows_of(sound(MIGRATED_TABLES, rows))
 
     def carried(self, name):
         """The comparisons of a migration, and of another one after it, which changes nothing."""
@@ -105,9 +106,20 @@ class OldDesk(Desk):
         yield f"{name}: migrate once more", self.run(["migrate"]), MIGRATED
         yield f"{name}: what lies there then", files.lying_at(self.path), before
 
+    def renewed(self, name: str, date: str) -> counting.Comparisons:
+        """The comparisons of a new archive of what is needed from a day on, which has the tables that `init` makes, and of a reading of all
+        drivers. The old archive stays as it is."""
+        before = files.both_of(self.path)
+        yield f"{name}: carry from {date}", *self.both(["carry", f"{date}.db", date])
+        yield f"{name}: carry from {date}: the old archive", files.both_of(self.path) == before, True
+        new = self.carried_to(f"{date}.db")
+        yield new.tables(f"{name}: carry from {date}")
+        yield f"{name}: carry from {date}: drivers", *new.both(["drivers"])
+        yield f"{name}: carry from {date}: check", new.run(["check"]), (b"sound\n", 0, b"")
+
     def tables(self, name):
-        """The comparison of the tables of the file, which was carried over, with those that it has to have."""
-        return of_tables(name, self.path, self.office.archive, is_carried=True)
+        """The comparison of the tables of the file, which was migrated, with those that it has to have."""
+        return of_tables(name, self.path, self.office.archive, is_migrated=True)
 
 
 def make_plain(path, rows):
@@ -127,7 +139,7 @@ def make_by_text(path, _):
         store.executescript(example())
 
 
-# Before it is carried over
+# Before it is migrated
 
 
 def ended(words):
@@ -156,6 +168,8 @@ def of_old(desk, name):
     before = files.lying_at(desk.path)
     yield from of_refused_file(desk, name, lambda path: None, [*COMMANDS, *BAD_COMMANDS], OLD)
     yield from of_refused_file(desk, name, lambda path: None, ["init"])
+    for date, line in [("2024-3-4", b"Z1 not of the shape\n"), ("2024-02-30", b"Z2 no such date\n"), ("2100-01-01", b"Z3 out of range\n")]:
+        yield f"{name}: carry from {date}", desk.run(["carry", NEW, date]), (line, 1, b"")
     for words, given in CHANGES:
         yield f"{name}: {words} with an input", desk.run(words, given), OLD
     for words in [["register"], ["enter", "17"]]:
@@ -183,7 +197,7 @@ def of_rows(program, name, make):
 
 
 def of_worked(program, name):
-    """The comparisons of a worked row's archive at its end, as schema 1 has it: carried over, each of its rows is there, and what is
+    """The comparisons of a worked row's archive at its end, as schema 1 has it: migrated, each of its rows is there, and what is
     asked then is answered as by the slow office."""
     office = slow_office.Office()
     for words, given in [(["register"], office_rows.ANNA), *[(row.words, row.given) for row in office_rows.ROWS[name]]]:
@@ -210,7 +224,7 @@ def readings_of(driver, months):
 
 
 def of_example(program, name, make):
-    """The comparisons of the example: carried over, each driver's readings are as by the slow office."""
+    """The comparisons of the example: migrated, each driver's readings are as by the slow office."""
     with tempfile.TemporaryDirectory() as folder:
         desk = OldDesk(program, folder, old_archive.office_after(old_archive.EXAMPLE), make)
         yield from of_old(desk, name)
@@ -220,6 +234,8 @@ def of_example(program, name, make):
         for words, given in [(["enter", "18"], DAY_OFF), (["enter", "17"], NO_AUTHOR), (["entries", "18"], b"")]:
             yield f"{name}: {words}", *desk.both(words, given)
         yield desk.tables(name)
+        for date in ["2024-03-04", "2024-03-06", "2024-03-12"]:
+            yield from desk.renewed(name, date)
 
 
 def of_text():
@@ -237,7 +253,7 @@ def of_text():
 
 
 def of_devices(program):
-    """The comparisons of outputs that can't be written, after which the archive is carried over, and of an input that nobody writes."""
+    """The comparisons of outputs that can't be written, after which the archive is migrated, and of an input that nobody writes."""
     for name, run in [("a full device", to_full), ("a closed pipe", to_nobody)]:
         with tempfile.TemporaryDirectory() as folder:
             desk = OldDesk(program, folder, old_archive.office_after(FIRST))
@@ -291,7 +307,7 @@ def office_of(chance, lines, count):
 
 
 def of_seed(program, seed):
-    """The comparisons of what random command lines have left, refused and then carried over, and of more lines at it. With some seeds
+    """The comparisons of what random command lines have left, refused and then migrated, and of more lines at it. With some seeds
     nothing was there but the tables."""
     lines, chance = office_lines.Lines(seed).lines(), random.Random(seed)
     begun = seed % 4 * office_lines.LINES // 4
@@ -308,7 +324,7 @@ def of_seed(program, seed):
 
 
 def of_script(program, script, seed):
-    """The comparisons of random commands to `tool_script` at what commands before have left, carried over by the program."""
+    """The comparisons of random commands to `tool_script` at what commands before have left, migrated by the program."""
     commands, chance = random_commands.Commands(seed).all(), random.Random(seed)
     half = len(commands) // 2
     name = f"seed {seed} by the script"

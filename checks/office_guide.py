@@ -525,7 +525,7 @@ def long_days(office, shown):
 
 
 def changes(office):
-    """A renewed card; another holder, to whom hours go; and the archive of the next year."""
+    """A renewed card; another holder, to whom hours go; and a new archive for the next year."""
     with undone(office):
         yield "a renewed card", office.told("register", given=ANNA.replace(b"17,", b"18,").replace(b"anna-key-1", b"anna-key-2")), \
             "S3 holder taken\n"
@@ -539,10 +539,26 @@ def changes(office):
     folder = office.folder
     shutil.copytree(folder, os.path.join(office.root, "next year"))
     office.folder = os.path.join(office.root, "next year")
-    yield office.typed("mkdir 2024", "created\nregistered 17\nbase 2024-11-04\n")
-    yield "the archive of the next year", office.told("drivers"), f"17 {HOLDER} 2024-11-04 0 0 Anna Berg\n"
-    yield "what is kept of the old year", sorted(os.listdir(office.path("2024"))), ["archive.db", "archive.db-wal", "downloads"]
+    yield from next_year(office)
     office.folder = folder
+
+
+def next_year(office):
+    """A new archive: of a driver with a card file of December, and of those who have nothing, beside others whose hours end before November."""
+    number = len(office.told("files", "17").splitlines()) + 1
+    yield "a card file of December", office.told("import", "both", given=later(DAY, 275)), f"added driver 17 number {number}\n"
+    lines = [line.split(" ", 5) for line in office.told("drivers").splitlines()]
+    kept = [line for line in lines if line[0] == "17" or line[3:5] == ["0", "0"]]
+    file = office.told("files", "17").splitlines()[-1].split(" ", 1)[1]
+    yield office.typed("tacho carry archive.db", f"carried {len(kept)} of {len(lines)} drivers\n")
+    before = office.told("drivers")
+    yield office.typed("mkdir 2024", "sound\n")
+    yield "what is kept of the old year", sorted(os.listdir(office.path("2024"))), ["archive.db", "archive.db-wal", "downloads"]
+    yield "the old archive", before, "".join(f"{' '.join(line)}\n" for line in lines)
+    later_base = {"17": ["2024-11-04", "1", "0"]}
+    wanted = [[*line[:2], *later_base.get(line[0], [max(line[2], "2024-11-04"), "0", "0"]), line[5]] for line in kept]
+    yield "the new archive", office.told("drivers"), "".join(f"{' '.join(line)}\n" for line in wanted)
+    yield "the driver's card file there", office.told("files", "17"), f"1 {file}\n"
 
 
 def later(file, days):
@@ -661,7 +677,7 @@ def soundness(office):
 
 
 def updates(office):
-    """An archive of schema 1, which is carried over."""
+    """An archive of schema 1, which is migrated."""
     with elsewhere(office, "old"):
         old_archive.make(office.path("archive.db"), old_archive.example_rows())
         told = [office.told("entries", "17"), office.told("check"), office.told("serve", KEY, str(office.port), "1")]
@@ -772,11 +788,10 @@ def services(office):
     made = os.listdir(os.path.join(root, "var/backups/tacho"))
     copied = [sorted(os.listdir(os.path.join(root, "var/backups/tacho", name))) for name in made]
     yield "what it has copied", copied, [["archive.db", "archive.db-wal"]]
-    yield office.typed_there("install -d -m 755 /usr/local/share/tacho/driver", "")
-    page = os.path.join(root, "usr/local/share/tacho/driver")
-    installed = {name: (read(os.path.join(page, name)), mode(os.path.join(page, name))) for name in os.listdir(page)}
-    own = os.path.join(EXAMPLES, "driver")
-    yield "the driver's page as it is installed", installed, {name: (read(os.path.join(own, name)), 0o644) for name in os.listdir(own)}
+    yield office.typed_there("install -m 644 examples/nginx.conf", "")
+    installed = os.path.join(root, "etc/nginx/conf.d/tacho.conf")
+    yield "the configuration of nginx as it is installed", (read(installed), mode(installed)), \
+        (read(os.path.join(EXAMPLES, "nginx.conf")), 0o644)
     if all(map(shutil.which, ("nginx", "openssl", "curl"))):
         yield from proxied(office)
     else:
@@ -806,17 +821,15 @@ def updated(office):
 
 def proxied(office: Office) -> counting.Comparisons:
     """The proxy of examples/nginx.conf, where nginx is installed: drivers' paths go through, the office's don't, and files of drivers
-    only once uploads are open; the driver's page as it was installed; and what the proxy answers by itself. The service is down at the
-    end."""
-    page = os.path.join(office.root, "usr/local/share/tacho/driver")
-    with Proxy(os.path.join(office.root, "shut"), free_port(), office.port, page=page) as proxy:
+    only once uploads are open; and what the proxy answers by itself. The service is down at the end."""
+    with Proxy(os.path.join(office.root, "shut"), free_port(), office.port) as proxy:
         yield from by_proxy(office, f"https://127.0.0.1:{proxy.port}", "with uploads shut", b"405")
-    with Proxy(os.path.join(office.root, "open"), free_port(), office.port, [OPENED], page) as proxy:
+    with Proxy(os.path.join(office.root, "open"), free_port(), office.port, [OPENED]) as proxy:
         address = f"https://127.0.0.1:{proxy.port}"
         yield from by_proxy(office, address, "with uploads open", b"repeated driver 17\n200")
         owed = f"{address}/me/owed"
-        told = [status("-H", "x-key: anna-key-1", owed) for _ in range(60)]
-        yield "who asks too often", (told[0], sorted({*told})), ("200", ["200", "429"])
+        told = statuses(300, "-H", "x-key: anna-key-1", owed)
+        yield "who asks too often", (told[:60], sorted({*told})), (["200"] * 60, ["200", "429"])
         office.type("systemctl stop tacho")
         told = "429"
         while told == "429":
@@ -831,10 +844,16 @@ def status(*options: str) -> str:
     return run.stdout.decode()
 
 
+def statuses(count: int, *options: str) -> list[str]:
+    """The statuses of the replies to one request, sent again and again on one connection: the last option is its address."""
+    words = ["curl", "-sk", "-w", "%{http_code}\n", *options[:-1], *["-o", "/dev/null", options[-1]] * count]
+    return subprocess.run(words, capture_output=True).stdout.decode().split()
+
+
 def by_proxy(office: Office, address: str, name: str, taken: bytes) -> counting.Comparisons:
     """Requests to a proxy. `taken` is the end of what it replies to a card file, and the status."""
     ask = ["curl", "-sk", "--retry", "20", "--retry-connrefused", "--retry-delay", "1", "-w", "%{http_code}", "-H", "x-key: anna-key-1"]
-    for path, wanted in [("/me/owed", office.told_by_key("/me/owed") + "200"), ("/drivers/17/owed", None)]:
+    for path, wanted in [("/me/owed", office.told_by_key("/me/owed") + "200"), ("/drivers/17/owed", None), ("/office/", None)]:
         told = subprocess.run([*ask, f"{address}{path}"], capture_output=True).stdout.decode()
         yield f"{path} by the proxy {name}", told if wanted else told[-3:], wanted or "404"
     office.write("large.ddd", bytes(262_145))
@@ -842,8 +861,6 @@ def by_proxy(office: Office, address: str, name: str, taken: bytes) -> counting.
         told = subprocess.run([*ask, "--data-binary", f"@{office.path(file)}", f"{address}/me/cards/both"], capture_output=True).stdout
         yield f"{file} by the proxy {name}", told[-len(wanted):], wanted
     yield f"without a key by the proxy {name}", status(f"{address}/me/owed"), "403"
-    yield f"the driver's page by the proxy {name}", \
-        subprocess.run(["curl", "-sk", f"{address}/driver/"], capture_output=True).stdout, read(os.path.join(EXAMPLES, "driver", "index.html"))
 
 
 def unit_commands(office, name):

@@ -292,16 +292,15 @@ def enabled(place: Root) -> list[str]:
 
 
 def units(place: Root) -> Comparisons:
-    """The installed units and the configuration of nginx: those of the examples with the places of the package."""
+    """The installed units: those of the examples with the places of the package."""
     for name in ("tacho.service", "tacho-backup.service", "tacho-backup.timer"):
         text = read(os.path.join(EXAMPLES, name)).decode()
         told = (content(place.path(f"{UNITS}/{name}")) or b"").decode()
         yield f"the unit {name}", told, text.replace("/usr/local/bin/tacho", "/usr/bin/tacho")
-    for name in (f"{UNITS}/tacho.service", f"{DOCUMENTS}/examples/nginx.conf"):
-        text = (content(place.path(name)) or b"").decode()
-        named = sorted({*re.findall(r"/usr/[a-z/]*tacho[a-z/]*", text)})
-        yield f"the places that {name} names, and whether they are there", [(path, os.path.exists(place.path(path))) for path in named], \
-            [("/usr/bin/tacho", True) if name.endswith(".service") else ("/usr/share/tacho/driver/", True)]
+    text = (content(place.path(f"{UNITS}/tacho.service")) or b"").decode()
+    named = sorted({*re.findall(r"/usr/[a-z/]*tacho[a-z/]*", text)})
+    yield "the places that the service's unit names, and whether they are there", \
+        [(path, os.path.exists(place.path(path))) for path in named], [("/usr/bin/tacho", True)]
 
 
 def used(place: Root) -> Comparisons:

@@ -45,6 +45,7 @@ TITLES = {
     "tacho_ahead": "forecasts",
     "tacho_state": "an archive's state, and the contract of an archive",
     "tacho_sheet": "CSV that comes in, texts that go out",
+    "tacho_carry": "a new archive of what is needed",
     "tacho_tar": "tar files",
     "tacho_handover": "what is handed over at an inspection",
     "tacho_desk": "what is done at an archive",

@@ -1,7 +1,7 @@
 #!/usr/bin/env python3
-"""Starts the program as a server on archives in files and keeps it waiting: by clients that are slow, or go on after their reply, by
-signals that stop it for a while, and by a lack of files. It has to wait as long as docs/OFFICE.md says and no longer, and then to answer
-who has come after them.
+"""Starts the program as a server on archives in files and keeps it waiting: by clients that are slow or silent, or go on after their
+reply, by signals that stop it for a while, and by a lack of files. It has to wait as long as docs/OFFICE.md says and no longer, and then to
+answer who has come after them. Silent clients hold up nobody.
 
 Most of the time nothing happens, and so all parts run side by side, each with a server and clients of its own. Argument: the program.
 The last line is 'N passed, M failed'."""
@@ -24,7 +24,7 @@ from lib.advice import without_sentence
 from lib.office import WITH_ANNA, Desk
 from lib.office_rows import DAY, LARGEST_DAY, LIMIT
 from lib.server import (
-    BREACHES, COUNTED, ENDED, FORBIDDEN, NO_PORT, OFFICE, OWN, REPEATED, STORED, TOO_LARGE, Serving, asking, posting, received,
+    BAD, BREACHES, COUNTED, ENDED, FORBIDDEN, NO_PORT, OFFICE, OWN, REPEATED, STORED, TOO_LARGE, Serving, asking, posting, received,
     server_after, told,
 )
 
@@ -33,9 +33,10 @@ CONNECTION = (29.5, 45)
 LINGERING = (1.9, 10)
 FILES = (29.5, 60)
 SOON = (0, 5)
-AFTER_ONE = (29.5, 40)  # that another client waits after a silent one
-AFTER_MANY = (19.5, 40)  # that it waits after those of which each leaves after a second
-MANY = 20
+SILENT = (4.9, 10)
+AT_ONCE = (0, 2)  # that a request waits beside silent clients, as many as are held
+AFTER_A_WHILE = (0.2, 3)  # that it waits beside more of them
+LATE = 3  # seconds after which a silent client sends its request
 LONGEST = 65  # after that a client gives up
 PIECE = bytes(65_536)
 
@@ -147,22 +148,83 @@ def of_answered(program, name, front, reply):
         yield f"{name}: the end", serving.end(), ENDED
 
 
-def of_silent(program, name, stays, limits):
-    """The comparisons of the one after clients that send nothing, each of which leaves some seconds after the one before it, or stays
-    where there is no such number."""
-    with served(program, len(stays) + 1) as serving, contextlib.ExitStack() as clients:
-        silent = [clients.enter_context(serving.connection()) for _ in stays]
-        other = clients.enter_context(serving.connection())
-        other.sendall(OWN)
-        start = time.monotonic()
-        for client, seconds in zip(silent, stays):
-            if seconds is not None:
-                time.sleep(seconds)
-                client.close()
-        other.settimeout(LONGEST)
-        yield f"{name}: the next", received(other), BREACHES
-        yield f"{name}: the seconds of the next", within(time.monotonic() - start, limits), True
+def of_silent(program, name, number, limits):
+    """The comparisons of a request beside a number of clients that send nothing, and of what becomes of them."""
+    with served(program, number + 1) as serving, contextlib.ExitStack() as clients:
+        silent = [clients.enter_context(serving.connection()) for _ in range(number)]
+        reply, seconds = timed(serving.ask, [OWN], False)
+        yield f"{name}: the request", (reply, within(seconds, limits)), (BREACHES, True)
+        left, seconds = timed(lambda: [received(client) for client in silent])
+        yield f"{name}: what is replied to them", set(left), {b""}
+        yield f"{name}: until they are closed", within(seconds, (0, SILENT[1])), True
         yield f"{name}: the end", serving.end(), ENDED
+
+
+def of_late(program):
+    """The comparisons of clients that stay silent, that send their request late, and that end their input instead."""
+    name = "silent at first"
+    with served(program, 3) as serving, contextlib.ExitStack() as clients:
+        silent, late, ending = (clients.enter_context(serving.connection()) for _ in range(3))
+        time.sleep(LATE)
+        late.sendall(OWN)
+        yield f"{name}: then a request", timed_reply(late), (BREACHES, True)
+        late.close()
+        ending.shutdown(socket.SHUT_WR)
+        yield f"{name}: then an end", timed_reply(ending), (BAD, True)
+        ending.close()
+        found, seconds = timed(received, silent)
+        yield f"{name}: nothing", (found, within(seconds + LATE, SILENT)), (b"", True)
+        yield f"{name}: the end", serving.end(), ENDED
+
+
+def of_order(program):
+    """The comparisons of clients that send their requests in another order than that in which they came: the one that came first is
+    answered first, but for a silent one. After a reply the server waits for the client to close, so no later one has a reply by then."""
+    with served(program, 5) as serving, contextlib.ExitStack() as clients:
+        busy = clients.enter_context(serving.connection())
+        busy.sendall(OWN[:20])
+        time.sleep(0.5)
+        silent, *others = (clients.enter_context(serving.connection()) for _ in range(4))
+        for other in reversed(others):
+            other.sendall(OWN)
+        busy.sendall(OWN[20:])
+        yield "the order: before all", received(busy), BREACHES
+        busy.close()
+        while others:
+            first = others.pop(0)
+            yield "the order: a reply", timed_reply(first), (BREACHES, True)
+            yield "the order: no other reply", len(select.select([silent, *others], [], [], 0.2)[0]), 0
+            first.close()
+        yield "the order: the end", serving.end(), ENDED
+
+
+def of_count(program):
+    """The comparisons of a server whose count is reached by silent clients: it accepts no further one."""
+    with served(program, 3) as serving, contextlib.ExitStack() as clients:
+        first, second = (clients.enter_context(serving.connection()) for _ in range(2))
+        yield "the count: the last", serving.ask([OWN], False), BREACHES
+        beyond = clients.enter_context(serving.connection())
+        beyond.sendall(OWN)
+        yield "the count: the silent", [received(first), received(second)], [b"", b""]
+        yield "the count: the end", serving.end(), ENDED
+        yield "the count: one beyond it", received(beyond), b""
+
+
+def ticks_of(process):
+    """The processor time that a process has used, in ticks of the system's clock."""
+    with open(f"/proc/{process.pid}/stat", encoding="utf-8") as file:
+        return sum(map(int, file.read().rpartition(")")[2].split()[11:13]))
+
+
+def of_idle(program):
+    """The comparison of the processor time that a server uses without a connection, after a silent one."""
+    with served(program, 2) as serving, serving.connection() as silent:
+        yield "idle: a silent client", received(silent), b""
+        before = ticks_of(serving.process)
+        time.sleep(LATE)
+        yield "idle: the processor time", ticks_of(serving.process) - before, 0
+        yield "idle: a request", serving.ask([OWN], False), BREACHES
+        yield "idle: the end", serving.end(), ENDED
 
 
 def of_staying(program):
@@ -265,7 +327,7 @@ def of_files(program):
         yield "before files are short", serving.ask([OWN], False), BREACHES
         with without_files(serving.process):
             first, second = [clients.enter_context(asked(serving)) for _ in range(2)]
-            yield "while files are short", select.select([second], [], [], 3)[0], []
+            yield "while files are short", len(select.select([second], [], [], 3)[0]), 0
         for name, client in [("the first", first), ("the second", second)]:
             yield f"when there are files again: {name}", timed_reply(client), (BREACHES, True)
         yield "when there are files again: the end", serving.end(), ENDED
@@ -302,18 +364,19 @@ def comparisons(program: str) -> counting.Comparisons:
     program = os.path.abspath(program)
     file = posting("/cards/both", OFFICE, LARGEST_DAY)
     questions: list[tuple[Any, ...]] = [
-        (of_slow, program, "a head byte by byte", b"", pieces_of(DRIPPED)),
+        (of_slow, program, "a head byte by byte", DRIPPED[:1], pieces_of(DRIPPED[1:])),
         (of_slow, program, "a body byte by byte", file[: -len(LARGEST_DAY)], pieces_of(LARGEST_DAY[:200])),
-        (of_slow, program, "a client that sends nothing", b"", LONGEST * [b""]),
+        (of_slow, program, "a client that sends half a request", OWN[:20], LONGEST * [b""]),
         (of_slow, program, "a head byte by byte after an unknown key", UNKNOWN[:-2], pieces_of(PADDING.encode())),
         (of_answered, program, "a byte a second after a reply", OWN, BREACHES),
         (of_answered, program, "a byte a second after a chart", CHART, server_after(WITH_DAY).reply(CHART)),
         (of_answered, program, "a body byte by byte after an unknown key", UNKNOWN_FRONT, FORBIDDEN),
-        (of_silent, program, "a silent client", [None], AFTER_ONE),
-        (of_silent, program, "silent clients that leave", MANY * [1], AFTER_MANY),
+        (of_silent, program, "a silent client", 1, AT_ONCE),
+        (of_silent, program, "as many silent clients as are held", 31, AT_ONCE),
+        (of_silent, program, "more silent clients", 50, AFTER_A_WHILE),
         (of_pushing, program, "a byte now and then after a request", b"p", 0.5),
         (of_pushing, program, "all that goes after a request", PIECE, 0),
-        *[(part, program) for part in [of_staying, of_unread, of_stops, of_files, of_no_files]],
+        *[(part, program) for part in [of_late, of_order, of_count, of_idle, of_staying, of_unread, of_stops, of_files, of_no_files]],
     ]
     with multiprocessing.Pool(len(questions)) as pool:
         for found in pool.imap(of_question, questions):

@@ -1,4 +1,4 @@
-/* Fails each call that writes, cuts or flushes a file at a place, from the one on whose number the environment's STOPPED_CALL gives, as
+/* Fails each call that writes, cuts, flushes or renames a file, from the one on whose number the environment's STOPPED_CALL gives, as
    a disk that has stopped, and says so on standard error. Where there is a STOPPED_CALLS of n, only n of them fail, and those after them
    are made again, as by a disk that fails for a while. What goes to standard output isn't counted.
    It is loaded before the C library by LD_PRELOAD. */
@@ -7,7 +7,7 @@ extern char *getenv(const char *name);
 extern int *__errno_location(void);
 extern long write(int file, const void *bytes, unsigned long count);
 
-enum { PWRITE = 18, FSYNC = 74, FDATASYNC = 75, FTRUNCATE = 77, NO_DEVICE = 5 };
+enum { PWRITE = 18, FSYNC = 74, FDATASYNC = 75, FTRUNCATE = 77, RENAME = 82, NO_DEVICE = 5 };
 
 static unsigned long called;
 
@@ -39,3 +39,5 @@ int fdatasync(int file) { return is_stopped() ? -1 : (int)syscall(FDATASYNC, fil
 int ftruncate(int file, long length) { return is_stopped() ? -1 : (int)syscall(FTRUNCATE, file, length); }
 
 int ftruncate64(int file, long length) { return ftruncate(file, length); }
+
+int rename(const char *from, const char *to) { return is_stopped() ? -1 : (int)syscall(RENAME, from, to); }

@@ -316,8 +316,8 @@ class Maker(office_lines.Lines):
         return words, changed(self.chance, given, self.chance.choice(self.cards).file())
 
 
-class Lines(Maker):
-    """Command lines of a seed: all arguments, and an input."""
+class Lines(Maker, office_lines.CarryLines):
+    """Command lines of a seed, `carry` among them: all arguments, and an input. No new archive has a path out of the folder."""
 
     def other_word(self, word: str) -> str:
         """Another argument."""
@@ -350,6 +350,8 @@ class Lines(Maker):
                     self.change(words)
             if self.chance.random() < 0.1:
                 words, given = self.chance.choice(OTHER_LINES), self.chance.choice(self.cards).file()
+            if words[:1] == ["carry"] and any(word.startswith("/") or ".." in word for word in words):
+                continue
             yield words, given
             if is_large(self.office):
                 return

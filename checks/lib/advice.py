@@ -13,14 +13,29 @@ WITHOUT = {b"dump", b"holder", b"card", b"serve", b"listen"}
 CODE = re.compile(rb"^([CEMNPSXZ]\d+) .*\n\Z", re.MULTILINE)
 
 
+# What a line of the table has in the place of the fault's line where the sentence is on the new archive of `carry`.
+OF_NEW = "the new archive of `carry`"
+
+
 @functools.cache
-def sentences() -> dict[str, set[str]]:
-    """The sentences of the table in docs/FORMATS.md by their codes."""
+def rows() -> list[tuple[str, str, str]]:
+    """The lines of the table in docs/FORMATS.md: the codes, when, and the sentence."""
     with open(os.path.join(TOP, "docs", "FORMATS.md"), encoding="utf-8") as file:
         page = file.read()
     table = page[page.index("## All lines of faults") :]
+    return re.findall(r"^\| ([^|]+?) \|[ ]*([^|]*?)[ ]*\| ([^|]+?) \|$", table, re.MULTILINE)
+
+
+def of_new() -> set[str]:
+    """The sentences on a new archive that `carry` can't make."""
+    return {said for _, when, said in rows() if when == OF_NEW}
+
+
+@functools.cache
+def sentences() -> dict[str, set[str]]:
+    """The sentences of the table in docs/FORMATS.md by their codes."""
     found: dict[str, set[str]] = {}
-    for codes, said in re.findall(r"^\| ([^|]+?) \|[^|]*\| ([^|]+?) \|$", table, re.MULTILINE):
+    for codes, _, said in rows():
         first, _, last = codes.partition(" to ")
         numbers = range(int(first[1:]), int(last[1:] or first[1:]) + 1) if first[1:].isdigit() else []
         for number in numbers:
@@ -44,21 +59,32 @@ def without_sentence(path: bytes, text: bytes, status: int, errors: bytes) -> by
     line = CODE.search(text)
     if status not in (1, 3) or line is None:
         return errors
-    left = without_known(path, sentences().get(line[1].decode(), set()), errors)
+    left = without_known(path, sentences().get(line[1].decode(), set()) - of_new(), errors)
     return left if left != errors else errors + b"no sentence for a person"
 
 
+def values_of(words: Sequence[bytes]) -> list[bytes]:
+    """The arguments of a command: two hyphens may stand before any of them."""
+    place = words.index(b"--") if b"--" in words else len(words)
+    return [*words[:place], *words[place + 1 :]]
+
+
 def without_advice(words: Sequence[str | bytes], text: bytes, status: int, errors: bytes) -> bytes:
-    """The same of a program with these arguments. Two hyphens may stand before the archive's path."""
+    """The same of a program with these arguments. If the store failed, the sentence of `carry` may be one on the new archive."""
     bytes_of = [word.encode(errors="surrogateescape") if isinstance(word, str) else word for word in words]
     if len(bytes_of) < 3 or bytes_of[1] in WITHOUT:
         return errors
-    path = bytes_of[3] if bytes_of[2] == b"--" and len(bytes_of) > 3 else bytes_of[2]
+    path, *others = values_of(bytes_of[2:]) or [b""]
+    left = without_known(others[0], of_new(), errors) if bytes_of[1] == b"carry" and others else errors
+    if text.startswith(b"S12 ") and left != errors:
+        return left
     return without_sentence(path, text, status, errors)
 
 
 def without_any(words: Sequence[str], errors: bytes) -> bytes:
     """What a program prints on standard error but for any sentence, where the line of the fault isn't known."""
+    if words[1:2] == ["carry"] and len(words) > 3:
+        errors = without_known(words[3].encode(), of_new(), errors)
     return without_known(words[2].encode(), all_sentences(), errors) if len(words) > 2 else errors
 
 

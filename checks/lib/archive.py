@@ -26,7 +26,7 @@ MADE = documented()
 
 # The tables of schema 2 as `init` makes them, and as `migrate` leaves them, each in its order.
 TABLES = ["meta", "drivers", "downloads", "card_spans", "entry_rows", "held"]
-CARRIED_TABLES = ["meta", "drivers", "downloads", "card_spans", "entries", "held", "entry_rows"]
+MIGRATED_TABLES = ["meta", "drivers", "downloads", "card_spans", "entries", "held", "entry_rows"]
 
 
 # What SQLite finds
@@ -75,9 +75,9 @@ def sound(names: Sequence[str], rows: Mapping[str, Iterable[Any]]) -> Found:
     return {**found, "statements": [MADE[name] for name in names], "integrity_check": [("ok",)], "foreign_key_check": []}
 
 
-def wanted_tables(archive: Archive, is_carried: bool) -> Found:
-    """What SQLite has to find in the file of an archive that `init` has made, or that was carried over from schema 1."""
-    return sound(CARRIED_TABLES if is_carried else TABLES, {"entries": [], **archive.tables()})
+def wanted_tables(archive: Archive, is_migrated: bool) -> Found:
+    """What SQLite has to find in the file of an archive that `init` has made, or that was migrated from schema 1."""
+    return sound(MIGRATED_TABLES if is_migrated else TABLES, {"entries": [], **archive.tables()})
 
 
 @functools.lru_cache(maxsize=8)
@@ -88,6 +88,6 @@ def rows_of_office(office: Office | None) -> list[Any]:
     return rows_of(wanted_tables(office.archive, False))
 
 
-def of_tables(name: str, path: str, archive: Archive, is_carried: bool = False) -> Comparison:
+def of_tables(name: str, path: str, archive: Archive, is_migrated: bool = False) -> Comparison:
     """The comparison of a file's tables with those that it has to have."""
-    return f"{name}: tables", rows_of(tables(path)), rows_of(wanted_tables(archive, is_carried))
+    return f"{name}: tables", rows_of(tables(path)), rows_of(wanted_tables(archive, is_migrated))

@@ -27,6 +27,7 @@ ENTRIES: dict[str, tuple[str, ...] | None] = {
     "tacho_ahead": None,
     "tacho_state": None,
     "tacho_sheet": None,
+    "tacho_carry": None,
     "tacho_tar": None,
     "tacho_handover": None,
     "tacho_desk": None,
@@ -92,7 +93,7 @@ MODULES = {crate: files_of(crate, "src", ".rt") for crate in CRATES}
 
 def without_comments(text: str, mark: str) -> str:
     """The text without strings, characters and comments, which begin with a mark."""
-    strings = r'"(?:\\.|[^"\\])*"|' + r"'(?:\\.|[^'\\\n])'"
+    strings = r'"(?:\\[\s\S]|[^"\\])*"|' + r"'(?:\\.|[^'\\\n])'"
     return re.sub(strings + "|" + mark + r"[^\n]*", lambda found: "" if found[0].startswith(mark) else '""', text)
 
 

@@ -8,6 +8,7 @@ CHECKS = os.path.join(TOP, "checks")
 DOCS = os.path.join(TOP, "docs")
 EXAMPLES = os.path.join(TOP, "examples")
 PAGE = 4096  # bytes of a page of an archive's file
+EMPTY_LOG = 41  # bytes of a log without a commit, at the most: each opening of an archive writes such a log anew
 
 
 def read(path: str) -> bytes:
@@ -25,6 +26,17 @@ def write(path: str, given: bytes) -> None:
     """Writes a file."""
     with open(path, "wb") as file:
         file.write(given)
+
+
+def log_of(path: str) -> bytes:
+    """The bytes of the log of an archive's file, or none where it has no commit."""
+    log = content(path + "-wal") or b""
+    return log if len(log) > EMPTY_LOG else b""
+
+
+def both_of(path: str) -> tuple[bytes | None, bytes]:
+    """The bytes of an archive's file, and those of its log, as far as they are the archive."""
+    return content(path), log_of(path)
 
 
 def lying_at(path: str) -> tuple[list[str], bytes | None]:

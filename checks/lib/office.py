@@ -1,6 +1,7 @@
 """The program at an archive in a folder, and a slow office beside it."""
 import copy
 import os
+import random
 import subprocess
 from collections.abc import Callable, Iterable, Sequence
 from typing import IO, Any, Protocol
@@ -11,9 +12,10 @@ from lib.archive import of_tables
 from lib.counting import Comparison, Comparisons
 from lib.files import lying_at, write
 from lib.programs import Told, told_by
-from slow import slow_office
+from slow import slow_archive, slow_office, slow_reader
 from slow.slow_office import Command
 
+LAST_DAY = slow_reader.READ_DAYS.stop - 1
 CREATED = (b"created\n", 0, b"")
 STORE_FAILED = (b"S12 store failed\n", 3, b"")
 
@@ -42,6 +44,10 @@ READINGS = [
     "form 17 2024-03-05",
 ]
 COMMANDS = ["register", "import both", "enter 17", "withdraw 17 1", "withdraw 17 1 2", "base 17 2024-03-11", "key 17", "name 17", *READINGS]
+COMMANDS += ["carry new.db 2024-03-05"]
+
+# What comes after the path of a new archive in the names of the files that may not be there when it is made.
+ENDINGS = ["", "-wal", ".part", ".part-wal"]
 
 
 class HasWords(Protocol):
@@ -59,9 +65,22 @@ class Desk:
         self.path = os.path.join(folder, "archive.db")
         self.office = slow_office.Office()
 
+    def beside(self, name: str) -> str:
+        """The path of a new archive that `carry` makes in the archive's folder."""
+        return os.path.join(os.path.dirname(self.path), name)
+
     def words(self, words: Sequence[str]) -> list[str]:
-        """The command line that has these arguments, without the path."""
-        return [self.program, words[0], self.path, *words[1:]]
+        """The command line that has these arguments, without the path. That of a new archive is relative to the archive's folder."""
+        name, *others = words
+        if name == "carry" and others:
+            others[0] = self.beside(others[0])
+        return [self.program, name, self.path, *others]
+
+    def carried_to(self, name: str) -> "Desk":
+        """The program at a new archive that `carry` has made, and the slow office of it."""
+        desk = Desk(self.program, os.path.dirname(self.path))
+        desk.path, desk.office = self.beside(name), self.office.made[name]
+        return desk
 
     def run(self, words: Sequence[str], given: bytes = b"", **others: Any) -> Told:
         """What a command prints, its status, and what it prints on standard error."""
@@ -114,7 +133,37 @@ def copy_of(office: slow_office.Office) -> slow_office.Office:
         other.downloads = [*driver.downloads]
         other.entries = [copy.copy(entry) for entry in driver.entries]
         made.archive.drivers[number] = other
+    made.made = {name: copy_of(other) for name, other in office.made.items()}
     return made
+
+
+# Readings
+
+
+def readings_of(driver: slow_archive.Driver, chance: random.Random) -> list[list[str]]:
+    """Readings of a driver: those of all that they hold, those of the months in which it begins and ends and of the month of their base,
+    each of their card files and the number after it, forecasts and handovers."""
+    held, base = driver.held(), 1440 * driver.base
+    first, last = min(held, default=base), max(held, default=base)
+    months = sorted({slow_reader.minute_text(minute)[:7] for minute in (first, last, base)})
+    words = [f"{word} {{}}" for word in ["drivers", "entries", "files", "breaches", "owed", "stretches", "debts", "form"]]
+    words += [f"{word} {{}} {month}" for word in ["spans", "gaps", "sheet", "why", "chart"] for month in months]
+    words += [f"file {{}} {number}" for number in range(1, len(driver.downloads) + 2)]
+    words += [f"ahead {{}} {slow_reader.minute_text(min(last + 1, 1440 * LAST_DAY))}"]
+    day = chance.randrange(first // 1440, last // 1440 + 1)
+    for start, past in [(day, day + 1), (first // 1440, first // 1440 + 7), (day, day + 366)]:
+        dates = [slow_reader.minute_text(1440 * min(one, LAST_DAY))[:10] for one in (start, past)]
+        words += [f"handover {{}} {' '.join(dates)}"]
+    return [one.format(driver.number).split(" ") for one in words]
+
+
+def readings_of_all(office: slow_office.Office, chance: random.Random) -> list[list[str]]:
+    """Readings of all drivers of an office, and those of each of them."""
+    drivers = office.archive.drivers.values()
+    ends = [max(driver.held(), default=1440 * driver.base) for driver in drivers] or [1440 * LAST_DAY]
+    month = slow_reader.minute_text(chance.choice(ends))[:7]
+    found = [["drivers"], ["check"], ["standing", month], ["overview", month], ["incidents", month]]
+    return found + [words for driver in drivers for words in readings_of(driver, chance)]
 
 
 # Files

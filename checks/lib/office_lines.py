@@ -18,6 +18,7 @@ BAD_DATES = ["2024-02-30", "2023-02-29", "1999-12-31", "2100-01-01", "0000-02-29
 BAD_PASTS = ["2000-01-03", "2000-01-04", "2099-12-31", *BAD_DATES]
 BAD_TIMES = ["24:00", "12:60", "9:00", "12:0", "12.00", "1200", "12:00:00", "", "2024-03-04"]
 BAD_PARTS = ["whole", "BOTH", "", "0"]
+FIRST_NEW = "new-1.db"
 
 # By the command: what its arguments, without the archive, are changed to.
 BAD: dict[str, list[list[str]]] = {
@@ -37,6 +38,7 @@ BAD: dict[str, list[list[str]]] = {
     "drivers": [BAD_DRIVERS],
     "check": [],
     "migrate": [],
+    "carry": [[FIRST_NEW], BAD_DATES],
     "forecast": [BAD_DATES, BAD_TIMES],
     "standing": [BAD_MONTHS],
     "overview": [BAD_MONTHS],
@@ -190,3 +192,29 @@ class Lines(random_commands.Commands):
                 self.office.answer(*command)
             lines.append(line)
         return lines
+
+
+class CarryLines(Lines):
+    """The same, with `carry` among the readings, since it leaves the archive as it is."""
+
+    def __init__(self, seed: int) -> None:
+        super().__init__(seed)
+        self.news: list[str] = []
+
+    def ends(self) -> list[int]:
+        """The days in which or at whose end what card files and entries give ends, and those in which it begins."""
+        drivers = [*self.drivers.values()]
+        given = [download.marks for driver in drivers for download in driver.downloads]
+        found = [minute // 1440 for marks in given for minute in (min(marks), max(marks), max(marks) + 1)]
+        return found + [minute // 1440 for driver in drivers for entry in driver.entries for minute in (entry.start, entry.past)]
+
+    def carry(self) -> Command:
+        """A new archive, or at times one that may be there already, from a day on: near one in which something ends, or any, or an argument
+        that is none."""
+        day = self.chance.choice(self.ends() or [self.base // 1440]) + self.chance.choice([-7, -1, 0, 0, 0, 1, 2])
+        self.news.append(self.one_of([f"new-{1 + len(self.news)}.db"], self.news))
+        return ["carry", self.news[-1], self.one_of([nearest_date(day)], BAD_DATES)], b""
+
+    def reading(self) -> Command:
+        """A reading, or a new archive."""
+        return self.carry() if self.chance.random() < 0.25 else super().reading()

@@ -1122,6 +1122,216 @@ ROWS = {
     ],
 }
 
+# What is carried. Of each: commands at the archive, the day from which it is carried over, the line, and rows at the new archive.
+Carry = namedtuple("Carry", "before date text after")
+
+# A card file that ends where 5 March begins, and one that goes on for a minute; and hours that do so.
+TO_MIDNIGHT = card_of(data_of(0, "2024-03-04 00:00 rest 08:00 work", "2024-03-05 00:00 rest"))
+BEYOND_MIDNIGHT = card_of(data_of(0, "2024-03-04 00:00 rest 08:00 work", "2024-03-05 00:00 rest 00:01 work"))
+HOURS_TO_MIDNIGHT = hours("2024-03-03 12:00,2024-03-05 00:00,rest")
+HOURS_BEYOND = hours("2024-03-04 08:00,2024-03-05 00:01,rest")
+BEYOND_SPANS = (
+    "start,past,activity,manning\n"
+    "2024-03-04 00:00,2024-03-04 08:00,rest,single\n"
+    "2024-03-04 08:00,2024-03-05 00:00,work,single\n"
+    "2024-03-05 00:00,2024-03-05 00:01,rest,single\n"
+)
+OF_SECOND = "2024-03-05 00:00 2024-03-05 07:00"
+OF_BOTH = "2024-03-04 00:00 2024-03-05 07:00"
+WEDNESDAY_NAME = "1-D1234567890123-20240305-20240306.ddd"
+FOUR_FILES = [
+    done("import both", "added driver 17 number 1\n", MONDAY),
+    done("import both", "added driver 17 number 2\n", TO_TUESDAY),
+    done("import both", "added driver 17 number 3\n", TO_WEDNESDAY),
+    done("import both", "added driver 17 number 4\n", SATURDAY),
+]
+NO_ANNA = [
+    done("drivers", ""), *[refused(f"{word} 17", "S4 unknown driver") for word in ["drivers", "files", "entries", "breaches", "form"]],
+    done("check", "sound\n"), done("standing 2024-03", STANDING_HEAD), done("register", "registered 17\n", ANNA),
+]
+
+
+def listed(number: int, part: str, file: bytes, minutes: str) -> str:
+    """The line of a card file: its number, part, length, first minute and the one after its last, and digest."""
+    return f"{number} {part} {len(file)} {minutes} {hashlib.sha256(file).hexdigest()}\n"
+
+
+def of_base(base: str, date: str, wanted: str) -> Carry:
+    """A driver with a base and nothing else, carried over from a day on, and the base that they then have."""
+    return Carry([done(f"base 17 {base}", f"base {base}\n")], date, "carried 1 of 1 drivers\n",
+                 [done("drivers", f"17 {HOLDER} {wanted} 0 0 Anna Berg\n"), done("breaches 17", f"EXAMINED TO {wanted} 00:00 unknown\n")])
+
+
+CARRIES = {
+    "a driver who has had nothing": Carry(
+        [], "2024-03-04", "carried 1 of 1 drivers\n",
+        [
+            done("drivers", anna("Anna Berg")), done("files 17", ""), done("entries 17", ""), done("breaches 17", UNEXAMINED),
+            done("check", "sound\n"), done("migrate", "migrated\n"), done("form 17", SIGNED_HEAD),
+            refused("register", "S1 driver taken", ANNA), refused("register", "S2 key taken", BERT.replace(b"bert-key", b"anna-key")),
+            refused("register", "S3 holder taken", BERT.replace(HOLDER[:-1].encode() + b"4", HOLDER.encode())),
+            refused("file 17 1", "S10 unknown download"), refused("withdraw 17 1", "S7 unknown entry"),
+            done("import both", "added driver 17 number 1\n", DAY), done("enter 17", "entered 1 to 1\n", FREE_DAYS),
+        ],
+    ),
+    "a file that ends where the day begins": Carry(
+        [done("import both", "added driver 17 number 1\n", TO_MIDNIGHT)], "2024-03-05", "carried 0 of 1 drivers\n",
+        [*NO_ANNA, done("import both", "added driver 17 number 1\n", TO_MIDNIGHT)],
+    ),
+    "a file that gives the first minute of the day": Carry(
+        [done("import both", "added driver 17 number 1\n", BEYOND_MIDNIGHT)], "2024-03-05", "carried 1 of 1 drivers\n",
+        [
+            done("drivers", with_counts(1, 0)), done("files 17", listed(1, "both", BEYOND_MIDNIGHT, "2024-03-04 00:00 2024-03-05 00:01")),
+            done("file 17 1", BEYOND_MIDNIGHT), refused("file 17 2", "S10 unknown download"), done("spans 17 2024-03", BEYOND_SPANS),
+            done("import both", "repeated driver 17\n", BEYOND_MIDNIGHT), done("import both", "repeated driver 17\n", TO_MIDNIGHT),
+        ],
+    ),
+    "a file that ends on the day before": Carry(
+        [done("import both", "added driver 17 number 1\n", BEYOND_MIDNIGHT)], "2024-03-06", "carried 0 of 1 drivers\n", NO_ANNA,
+    ),
+    "a file on the first day": Carry(
+        [done("import both", "added driver 17 number 1\n", BEYOND_MIDNIGHT)], "2024-03-04", "carried 1 of 1 drivers\n",
+        [done("drivers", with_counts(1, 0)), done("spans 17 2024-03", BEYOND_SPANS)],
+    ),
+    "hours that end where the day begins": Carry(
+        [done("enter 17", "entered 1 to 1\n", HOURS_TO_MIDNIGHT)], "2024-03-05", "carried 0 of 1 drivers\n", NO_ANNA,
+    ),
+    "hours that end a minute after it": Carry(
+        [done("enter 17", "entered 1 to 1\n", HOURS_TO_MIDNIGHT), done("enter 17", "entered 2 to 2\n", HOURS_BEYOND)],
+        "2024-03-05", "carried 1 of 1 drivers\n",
+        [
+            done("drivers", with_counts(0, 1)),
+            done("entries 17", '1 2024-03-04 08:00 2024-03-05 00:01 rest kept "office" ""\n'),
+            done("spans 17 2024-03", "start,past,activity,manning\n2024-03-04 08:00,2024-03-05 00:01,rest,single\n"),
+            done("withdraw 17 1", "withdrawn 1\n"), refused("withdraw 17 2", "S7 unknown entry"),
+            done("enter 17", "entered 2 to 2\n", HOURS_TO_MIDNIGHT),
+        ],
+    ),
+    "hours that are withdrawn": Carry(
+        [done("enter 17", "entered 1 to 3\n", THREE_DAYS), done("withdraw 17 2", "withdrawn 2\n")],
+        "2024-03-09", "carried 1 of 1 drivers\n",
+        [
+            done("drivers", with_counts(0, 2)),
+            done("entries 17",
+                 '1 2024-03-09 00:00 2024-03-10 00:00 rest kept "office" ""\n2 2024-03-11 00:00 2024-03-12 00:00 rest kept "office" ""\n'),
+            done("gaps 17 2024-03",
+                 "2024-03-01 00:00 2024-03-09 00:00\n2024-03-10 00:00 2024-03-11 00:00\n2024-03-12 00:00 2024-04-01 00:00\n"),
+            done("enter 17", "entered 3 to 3\n", hours("2024-03-10 00:00,2024-03-11 00:00,work")),
+        ],
+    ),
+    "all hours are withdrawn": Carry(
+        [done("enter 17", "entered 1 to 1\n", FREE_DAYS), done("withdraw 17 1", "withdrawn 1\n")],
+        "2024-03-04", "carried 0 of 1 drivers\n", NO_ANNA,
+    ),
+    "a file beside withdrawn hours": Carry(
+        [ADDED, done("enter 17", "entered 1 to 1\n", FREE_DAYS), done("withdraw 17 1", "withdrawn 1\n")],
+        "2024-03-05", "carried 1 of 1 drivers\n",
+        [done("drivers", with_counts(1, 0)), done("entries 17", ""), done("spans 17 2024-03", SPANS)],
+    ),
+    "authors and notes": Carry(
+        [
+            done("enter 17", "entered 1 to 2\n", MORNING), done("enter 17", "entered 3 to 3\n", DAY_OFF),
+            done("enter 17", "entered 4 to 4\n", DAY_OFF.replace(b"Eva Lund", "Zo\u00eb".encode()).replace(b"day off", b"a'b;c")),
+        ],
+        "2024-03-11", "carried 1 of 1 drivers\n",
+        [
+            done("drivers", f"17 {HOLDER} 2024-03-11 0 2 Anna Berg\n"),
+            done("entries 17",
+                 DAY_OFF_LINE.replace("2 ", "1 ", 1) + DAY_OFF_LINE.replace("Eva Lund", "Zo\u00eb").replace("day off", "a'b;c")),
+        ],
+    ),
+    "batches in another order than their days": Carry(
+        [
+            done("enter 17", "entered 1 to 1\n", hours("2024-03-11 00:00,2024-03-12 00:00,rest")),
+            done("enter 17", "entered 2 to 3\n", hours("2024-03-09 00:00,2024-03-10 00:00,rest", "2024-03-10 00:00,2024-03-11 00:00,work")),
+            done("enter 17", "entered 4 to 4\n", hours("2024-03-11 00:00,2024-03-12 00:00,rest")),
+        ],
+        "2024-03-10", "carried 1 of 1 drivers\n",
+        [
+            done("drivers", with_counts(0, 3)),
+            done("entries 17",
+                 '1 2024-03-11 00:00 2024-03-12 00:00 rest kept "office" ""\n2 2024-03-10 00:00 2024-03-11 00:00 work kept "office" ""\n'
+                 '3 2024-03-11 00:00 2024-03-12 00:00 rest kept "office" ""\n'),
+            done("withdraw 17 1 3", "withdrawn 1 to 3\n"), refused("withdraw 17 4", "S7 unknown entry"),
+            done("enter 17", "entered 4 to 4\n", FREE_DAYS),
+        ],
+    ),
+    "a file by its parts": Carry(
+        [done("import first", "added driver 17 number 1\n", GENERATIONS), done("import second", "added driver 17 number 2\n", GENERATIONS)],
+        "2024-03-05", "carried 1 of 1 drivers\n",
+        [
+            done("files 17", listed(1, "second", GENERATIONS, OF_SECOND)), done("file 17 1", GENERATIONS),
+            done("spans 17 2024-03", "start,past,activity,manning\n2024-03-05 00:00,2024-03-05 07:00,rest,single\n"),
+            done("import second", "repeated driver 17\n", GENERATIONS), done("import first", "added driver 17 number 2\n", GENERATIONS),
+            done("import both", "repeated driver 17\n", GENERATIONS),
+        ],
+    ),
+    "a file by its first part": Carry(
+        [done("import first", "added driver 17 number 1\n", GENERATIONS)], "2024-03-05", "carried 0 of 1 drivers\n", NO_ANNA,
+    ),
+    "a file by one part and by both": Carry(
+        [done("import second", "added driver 17 number 1\n", GENERATIONS), done("import both", "added driver 17 number 2\n", GENERATIONS)],
+        "2024-03-05", "carried 1 of 1 drivers\n",
+        [done("files 17", listed(1, "second", GENERATIONS, OF_SECOND) + listed(2, "both", GENERATIONS, OF_BOTH))],
+    ),
+    "numbers that begin at 1 again": Carry(
+        FOUR_FILES, "2024-03-06", "carried 1 of 1 drivers\n",
+        [
+            done("drivers", with_counts(2, 0)),
+            done("files 17", listed(1, "both", TO_WEDNESDAY, "2024-03-05 00:00 2024-03-06 05:00")
+                 + listed(2, "both", SATURDAY, "2024-03-09 00:00 2024-03-09 10:00")),
+            done("file 17 1", TO_WEDNESDAY), done("file 17 2", SATURDAY), refused("file 17 3", "S10 unknown download"),
+            done("handover 17 2024-03-06 2024-03-07",
+                 handed("2024-03-06 2024-03-07", with_counts(2, 0), [(WEDNESDAY_NAME, TO_WEDNESDAY)],
+                        gaps=["2024-03-06 05:00 2024-03-07 00:00"])),
+            done("import both", "added driver 17 number 3\n", MONDAY), done("import both", "added driver 17 number 4\n", TO_TUESDAY),
+        ],
+    ),
+    "files from the middle of the week on": Carry(
+        FOUR_FILES, "2024-03-05", "carried 1 of 1 drivers\n",
+        [
+            done("drivers", with_counts(3, 0)), done("file 17 1", TO_TUESDAY), done("file 17 2", TO_WEDNESDAY), done("file 17 3", SATURDAY),
+            done("import both", "repeated driver 17\n", MONDAY),
+        ],
+    ),
+    "a base before the day's week": of_base("2020-01-06", "2024-03-13", "2024-03-11"),
+    "a base in the day's week": of_base("2024-03-11", "2024-03-17", "2024-03-11"),
+    "a base before a day that is a Monday": of_base("2024-03-11", "2024-03-18", "2024-03-18"),
+    "a base before a day that is a Sunday": of_base("2024-02-26", "2024-03-10", "2024-03-04"),
+    "a base after the day": of_base("2024-03-18", "2024-03-13", "2024-03-18"),
+    "a base long after the day": of_base("2099-12-28", "2000-01-03", "2099-12-28"),
+    "the first day": of_base("2000-01-03", "2000-01-03", "2000-01-03"),
+    "the last day": of_base("2000-01-03", "2099-12-31", "2099-12-28"),
+    "drivers who are carried and others": Carry(
+        [
+            done("register", "registered 18\n", BERT), done("register", "registered 9\n", CARL), ADDED,
+            done("enter 9", "entered 1 to 1\n", hours("2024-03-04 08:00,2024-03-04 09:00,work")),
+        ],
+        "2024-03-05", "carried 2 of 3 drivers\n",
+        [
+            done("drivers", f"{with_counts(1, 0)}18 {HOLDER[:-1]}4 2024-03-04 0 0 Bert\n"), done("breaches 17", BREACH + EXAMINED),
+            refused("entries 9", "S4 unknown driver"), refused("import both", "S4 unknown driver", OTHER_CARD),
+            refused("key 17", "S2 key taken", b"bert-key-1\n"), done("key 17", "key 17\n", b"carl-key-1\n"),
+            refused("register", "S2 key taken", CARL), done("key 17", "key 17\n", b"anna-key-1\n"),
+            done("register", "registered 9\n", CARL),
+            done("import both", "added driver 9 number 1\n", OTHER_CARD), done("name 18", "name 18\n", b"Bert Holm\n"),
+            done("base 18 2024-02-05", "base 2024-02-05\n"),
+        ],
+    ),
+    "a driver with another key and name": Carry(
+        [ADDED, done("key 17", "key 17\n", b"anna-key-2\n"), done("name 17", "name 17\n", "Zo\u00eb A".encode())],
+        "2024-03-04", "carried 1 of 1 drivers\n",
+        [
+            done("drivers", f"17 {HOLDER} 2024-03-04 1 0 Zo\u00eb A\n"), done("register", "registered 18\n", BERT),
+            refused("key 18", "S2 key taken", b"anna-key-2\n"), done("key 18", "key 18\n", b"anna-key-1\n"),
+        ],
+    ),
+    "the largest file": Carry(
+        [done("import both", "added driver 17 number 1\n", LARGEST_DAY)], "2024-03-05", "carried 1 of 1 drivers\n",
+        [done("file 17 1", LARGEST_DAY), done("breaches 17", BREACH + EXAMINED)],
+    ),
+}
+
 # What `card` prints of a part and a file, and its status.
 OF_DAY = "".join(f"{line}\n" for line in SPANS.replace(",", " ").splitlines()[1:]).encode()
 CARDS = [

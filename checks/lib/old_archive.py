@@ -45,7 +45,7 @@ HEAD = """\
 --
 --     sqlite3 old.db < examples/archive-schema-1.sql
 --
--- makes a file of it, which `tacho migrate old.db` carries over to schema 2. Driver 17 has a card file of two days, and three entries
+-- makes a file of it, which `tacho migrate old.db` brings to schema 2. Driver 17 has a card file of two days, and three entries
 -- of which the first was withdrawn; driver 18 has no card file, and two entries of which the second was withdrawn.
 """
 

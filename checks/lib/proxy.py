@@ -7,7 +7,6 @@ from collections.abc import Iterable
 from lib.files import EXAMPLES
 
 PROGRAMS = ("nginx", "openssl")
-PAGE = "/usr/local/share/tacho/driver/"
 UPLOADS = "set $uploads shut;"
 
 Change = tuple[str, str]  # a text of the example, and the one in its place
@@ -44,11 +43,10 @@ def example() -> str:
 class Proxy:
     """nginx in a folder: at a port, before the service at another port."""
 
-    def __init__(self, root: str, port: int, service: int, changes: Iterable[Change] = (), page: str = os.path.join(EXAMPLES, "driver")) -> None:
-        """Starts nginx, with the driver's page from a folder. `changes` are texts of the example that are replaced: each has to be in it."""
+    def __init__(self, root: str, port: int, service: int, changes: Iterable[Change] = ()) -> None:
+        """Starts nginx. `changes` are texts of the example that are replaced: each has to be in it."""
         text = example()
-        own = [("listen 443", f"listen 127.0.0.1:{port}"), ("/etc/nginx/", f"{root}/"), ("127.0.0.1:8017", f"127.0.0.1:{service}"),
-               (f"alias {PAGE}", f"alias {page}/")]
+        own = [("listen 443", f"listen 127.0.0.1:{port}"), ("/etc/nginx/", f"{root}/"), ("127.0.0.1:8017", f"127.0.0.1:{service}")]
         for old, new in [*own, *changes]:
             if old not in text:
                 raise RuntimeError(f"examples/nginx.conf has no '{old}'")

@@ -3,7 +3,8 @@ input, and its status. Its texts are written a minute at a time. `docs/FORMATS.m
 
 `Office.answer` is given the arguments without the archive's path (`["spans", "17", "2024-03"]`) and the input's bytes. It takes one
 command more than the program, `own`: the import of a card file by the driver whose number it has. Its archive is one of schema 2,
-which `migrate` leaves as it is, and `check` finds sound."""
+which `migrate` leaves as it is, and `check` finds sound. What `carry` has made is another office, `Office.made[NEW]`."""
+import copy
 import datetime
 import functools
 import hashlib
@@ -633,7 +634,39 @@ def handover_tar(driver: slow_archive.Driver, period: range) -> bytes:
     return slow_tar.tar([*members, ("contents.txt", contents_text(driver, period, members).encode())])
 
 
+# A new archive of what is needed from a day on
+
+
+def monday_of(day: int) -> int:
+    """The Monday of a day's week. Day 4 was one."""
+    return day - (day - 4) % 7
+
+
+def carried_driver(driver: slow_archive.Driver, day: int) -> slow_archive.Driver | None:
+    """A driver as they are carried from a day on, or nothing if they are left out: they have had card files or entries, and none of these
+    is carried."""
+    start = 1440 * day
+    made = slow_archive.Driver(driver.number, driver.holder, driver.key, max(driver.base, monday_of(day)), driver.name)
+    made.downloads = [download for download in driver.downloads if any(minute >= start for minute in download.marks)]
+    made.entries = [copy.copy(entry) for entry in driver.entries if not entry.is_withdrawn and entry.past > start]
+    has_had = driver.downloads or driver.entries
+    return None if has_had and not made.downloads and not made.entries else made
+
+
+def carried(archive: slow_archive.Archive, day: int) -> slow_archive.Archive:
+    """The new archive of what is needed of an archive from a day on."""
+    made = slow_archive.Archive()
+    for number, driver in archive.drivers.items():
+        if kept := carried_driver(driver, day):
+            made.drivers[number] = kept
+    return made
+
+
 # The office
+
+
+class StoreFailed(Exception):
+    """The store can't do what it should: S12."""
 
 
 def line_of(refusal: Refusal) -> str:
@@ -662,10 +695,11 @@ def within(given: bytes) -> bytes:
 
 
 class Office:
-    """The commands on an archive that is there."""
+    """The commands on an archive that is there, and the offices of those that `carry` has made of it, by their paths."""
 
-    def __init__(self) -> None:
-        self.archive = slow_archive.Archive()
+    def __init__(self, archive: slow_archive.Archive | None = None) -> None:
+        self.archive = archive or slow_archive.Archive()
+        self.made: dict[str, Office] = {}
 
     def answer(self, words: Sequence[str], given: bytes = b"", reserved: str | None = None) -> tuple[bytes, int]:
         """What a command line prints for an input, as bytes, and its status. After a refusal nothing has changed. A reserved key can't be
@@ -700,6 +734,7 @@ class Office:
             "overview": lambda: self.overview(*others),
             "incidents": lambda: self.incidents(*others),
             "form": lambda: self.form(*others),
+            "carry": lambda: self.carry(*others),
             "migrate": lambda: "migrated\n",
             "check": lambda: "sound\n",
             "version": version_lines,
@@ -710,6 +745,8 @@ class Office:
             return f"{line_of(refusal)}\n".encode(), 1
         except slow_reader.Fault as fault:
             return f"{fault}\n".encode(), 1
+        except StoreFailed:
+            return b"S12 store failed\n", 3
         return told if isinstance(told, bytes) else told.encode(), 0
 
     def import_files(self, part: str, files: Sequence[tuple[str, bytes | None]]) -> tuple[bytes, int]:
@@ -783,6 +820,14 @@ class Office:
         name = column_in(within(given), "name")
         self.archive.rename(driver, name)
         return f"name {driver}\n"
+
+    def carry(self, new: str, date: str) -> str:
+        """Makes a new archive of what is needed from a day on, where none was made before: Z1, Z2, Z3, S12."""
+        day = day_of(date)
+        if new in self.made:
+            raise StoreFailed
+        self.made[new] = Office(carried(self.archive, day))
+        return f"carried {len(self.made[new].archive.drivers)} of {len(self.archive.drivers)} drivers\n"
 
     def month(self, number: str, month: str) -> tuple[slow_archive.Driver, Month]:
         """A driver and a month: N1, Z1, Z2, Z3, S4."""
