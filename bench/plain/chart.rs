@@ -33,10 +33,10 @@ macro_rules! bar {
 const BARS: [[[&str; 4]; 2]; 4] = [bar!("rest", 26, 6), bar!("available", 20, 12), bar!("work", 12, 20), bar!("drive", 4, 28)];
 
 const STYLE: &str = "</title>
-<style>text{fill:#222}.right{text-anchor:end}.middle{text-anchor:middle}.back{fill:#fafafa;stroke:#aaa}.hour{stroke:#d0d0d0}\
-.rest{fill:#8fb8de}.available{fill:#c9b3e0}.work{fill:#f0a030}.drive{fill:#1f4e79}\
-.crew{fill-opacity:.45;stroke:#222;stroke-dasharray:4 3}.unseen{fill:#555;fill-opacity:.16}\
-.breach path,.mark{fill:#c00000;stroke:#fff;stroke-width:2}.code{fill:#c00000;font-weight:bold;font-size:15px}</style>
+<style>text{fill:#1c2128}.right{text-anchor:end}.middle{text-anchor:middle}.back{fill:#f0f2f4;stroke:#767e87}.hour{stroke:#d7dbe0}\
+.rest{fill:#5b8fc2}.available{fill:#9270c4}.work{fill:#b87100}.drive{fill:#1f4e79}\
+.crew{fill-opacity:.4;stroke:#1c2128;stroke-dasharray:4 3}.unseen{fill:#55606b;fill-opacity:.2}\
+.breach path,.mark{fill:#a8201a;stroke:#fff}.code{fill:#a8201a;font-weight:bold;font-size:15px}</style>
 <rect width=\"100%\" height=\"100%\" fill=\"#fff\"/>
 <text x=\"20\" y=\"40\" font-size=\"28\">";
 const HOURS: &str = "</text>
@@ -58,7 +58,7 @@ const LEGEND: &str = ")\">
 <rect class=\"drive crew\" x=\"700\" y=\"4\" width=\"40\" height=\"28\"/><text x=\"750\" y=\"32\">second driver</text>
 <rect class=\"back\" x=\"930\" y=\"4\" width=\"40\" height=\"28\"/><text x=\"980\" y=\"32\">not known</text>
 <rect class=\"unseen\" x=\"1120\" y=\"0\" width=\"40\" height=\"36\"/><text x=\"1170\" y=\"32\">not examined</text>
-<path class=\"mark\" d=\"M1340 0h6v36h-6z\"/><text x=\"1360\" y=\"32\">breach</text>
+<path class=\"mark\" d=\"M1340 -9h11l-3 4 3 4h-8v33h-3z\"/><text x=\"1360\" y=\"32\">breach</text>
 </g>
 </svg>\n";
 
@@ -95,7 +95,7 @@ fn title_of(driver: u32, name: &str, month: &str) -> String {
 
 fn push_front(lines: &mut Lines, title: &str, days: u32) {
     push(lines, "<svg xmlns=\"http://www.w3.org/2000/svg\" viewBox=\"0 0 1920 ");
-    push_number(lines, 160 + 36 * days);
+    push_number(lines, 160 + 42 * days);
     push(lines, "\" font-family=\"sans-serif\" font-size=\"20\" role=\"img\">\n<title>");
     push(lines, title);
     push(lines, STYLE);
@@ -156,9 +156,9 @@ fn push_bars(lines: &mut Lines, spans: &mut &[Span], midnight: u32) -> u32 {
 fn push_shade(lines: &mut Lines, x: u32, width: u32) {
     push(lines, "<rect class=\"unseen\" x=\"");
     push_number(lines, x);
-    push(lines, "\" y=\"0\" width=\"");
+    push(lines, "\" y=\"-5\" width=\"");
     push_number(lines, width);
-    push(lines, "\" height=\"36\"/>\n");
+    push(lines, "\" height=\"42\"/>\n");
 }
 
 /// Appends the shades of a day. Drops the stretches that end in the day.
@@ -183,8 +183,10 @@ fn push_mark(lines: &mut Lines, breach: &Breach, midnight: u32) {
     push_breach(lines, breach);
     lines.text.pop();
     push(lines, "</title><path d=\"M");
-    push_number(lines, breach.moment - midnight);
-    push(lines, " 0h6v36h-6z\"/></g>\n");
+    let minute = breach.moment - midnight;
+    push_number(lines, minute);
+    push(lines, if minute <= 1380 { " -9h11l-3 4 3 4h-8v33h-3z" } else { " -9h-11l3 4-3 4h11v33h3v-41z" });
+    push(lines, "\"/></g>\n");
 }
 
 fn push_day_end(lines: &mut Lines, drive: u32, breaches: &[&Breach]) {
@@ -212,7 +214,7 @@ pub fn chart_of(driver: u32, name: &str, spans: &[Span], stretches: &[Stretch], 
     push_front(&mut lines, &title_of(driver, name, month), days);
     for number in 0..days {
         let midnight = start + DAY * number;
-        push_day_head(&mut lines, midnight, 100 + 36 * number);
+        push_day_head(&mut lines, midnight, 100 + 42 * number);
         let drive = push_bars(&mut lines, &mut spans, midnight);
         push_shades(&mut lines, &mut stretches, midnight);
         // A stretch ends before the next one begins, so all breaches are in the order of their moments.
@@ -222,7 +224,7 @@ pub fn chart_of(driver: u32, name: &str, spans: &[Span], stretches: &[Stretch], 
         breaches = later;
     }
     push(&mut lines, "<g transform=\"translate(200 ");
-    push_number(&mut lines, 112 + 36 * days);
+    push_number(&mut lines, 112 + 42 * days);
     push(&mut lines, LEGEND);
     lines.text
 }

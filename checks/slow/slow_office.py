@@ -461,10 +461,10 @@ def incident_rows(driver: slow_archive.Driver, minutes: range) -> str:
 # The chart of a month
 
 CHART_STYLE = (
-    "<style>text{fill:#222}.right{text-anchor:end}.middle{text-anchor:middle}.back{fill:#fafafa;stroke:#aaa}.hour{stroke:#d0d0d0}"
-    ".rest{fill:#8fb8de}.available{fill:#c9b3e0}.work{fill:#f0a030}.drive{fill:#1f4e79}"
-    ".crew{fill-opacity:.45;stroke:#222;stroke-dasharray:4 3}.unseen{fill:#555;fill-opacity:.16}"
-    ".breach path,.mark{fill:#c00000;stroke:#fff;stroke-width:2}.code{fill:#c00000;font-weight:bold;font-size:15px}</style>\n"
+    "<style>text{fill:#1c2128}.right{text-anchor:end}.middle{text-anchor:middle}.back{fill:#f0f2f4;stroke:#767e87}.hour{stroke:#d7dbe0}"
+    ".rest{fill:#5b8fc2}.available{fill:#9270c4}.work{fill:#b87100}.drive{fill:#1f4e79}"
+    ".crew{fill-opacity:.4;stroke:#1c2128;stroke-dasharray:4 3}.unseen{fill:#55606b;fill-opacity:.2}"
+    ".breach path,.mark{fill:#a8201a;stroke:#fff}.code{fill:#a8201a;font-weight:bold;font-size:15px}</style>\n"
     '<rect width="100%" height="100%" fill="#fff"/>\n'
 )
 BAR_HEIGHTS = {"rest": 6, "available": 12, "work": 20, "drive": 28}
@@ -497,6 +497,13 @@ def bar_text(first: int, start: int, past: int, mark: slow_reader.Mark) -> str:
     )
 
 
+def flag_at(minute: int) -> str:
+    """The flag of a mark at a minute of the day, and its pole: a path after the pole's top. It points to the left after 23:00."""
+    if minute > 23 * 60:
+        return " -9h-11l3 4-3 4h11v33h3v-41z"
+    return " -9h11l-3 4 3 4h-8v33h-3z"
+
+
 def chart_day(held: Marks, stretches: Sequence[Stretch], date: datetime.date, y: int) -> str:
     """The group of a day, `y` below the top."""
     minutes = minutes_of(date)
@@ -504,13 +511,13 @@ def chart_day(held: Marks, stretches: Sequence[Stretch], date: datetime.date, y:
     bars = [bar_text(first, *run) for run in slow_reader.runs((minute, held[minute]) for minute in minutes if minute in held)]
     unseen = [minute for minute in minutes if not any(stretch.monday <= minute < stretch.horizon for stretch in stretches)]
     shades = [
-        f'<rect class="unseen" x="{start - first}" y="0" width="{past - start}" height="36"/>\n'
+        f'<rect class="unseen" x="{start - first}" y="-5" width="{past - start}" height="42"/>\n'
         for start, past, _ in slow_reader.runs((minute, "") for minute in unseen)
     ]
     found = breaches_in(stretches, minutes)
     marks = [
         f'<g class="breach"><title>B{kind} {ARTICLES[kind]} at {slow_reader.minute_text(moment)} since {slow_reader.minute_text(since)} '
-        f'amount {amount}</title><path d="M{moment - first} 0h6v36h-6z"/></g>\n'
+        f'amount {amount}</title><path d="M{moment - first}{flag_at(moment - first)}"/></g>\n'
         for kind, moment, since, amount in found
     ]
     drive = sum(held.get(minute) == ("drive", "single") for minute in minutes)
@@ -533,18 +540,18 @@ def chart_text(driver: slow_archive.Driver, month: Month) -> str:
     days = days_of(month)
     title = f"{driver.number} {xml_text(driver.name.decode())}, {month[0]:04}-{month[1]:02}"
     hours = "".join(f'<text x="{200 + 60 * hour}" y="88">{hour}</text>' for hour in range(0, 25, 2))
-    groups = "".join(chart_day(held, stretches, date, 100 + 36 * place) for place, date in enumerate(days))
+    groups = "".join(chart_day(held, stretches, date, 100 + 42 * place) for place, date in enumerate(days))
     legend = "".join(
         f'<{shape} x="{x}" y="{y}" width="40" height="{height}"/><text x="{x + 50}" y="32">{text}</text>\n'
         for shape, x, y, height, text in LEGEND
     )
     return (
-        f'<svg xmlns="http://www.w3.org/2000/svg" viewBox="0 0 1920 {160 + 36 * len(days)}" font-family="sans-serif" font-size="20" role="img">\n'
+        f'<svg xmlns="http://www.w3.org/2000/svg" viewBox="0 0 1920 {160 + 42 * len(days)}" font-family="sans-serif" font-size="20" role="img">\n'
         f'<title>{title}</title>\n{CHART_STYLE}<text x="20" y="40" font-size="28">{title}</text>\n'
         '<g class="right"><text x="176" y="88">UTC</text><text x="1730" y="88">driven</text></g>\n'
         f'<g class="middle">{hours}</g>\n{groups}'
-        f'<g transform="translate(200 {112 + 36 * len(days)})">\n{legend}'
-        '<path class="mark" d="M1340 0h6v36h-6z"/><text x="1360" y="32">breach</text>\n</g>\n</svg>\n'
+        f'<g transform="translate(200 {112 + 42 * len(days)})">\n{legend}'
+        '<path class="mark" d="M1340 -9h11l-3 4 3 4h-8v33h-3z"/><text x="1360" y="32">breach</text>\n</g>\n</svg>\n'
     )
 
 

@@ -151,22 +151,22 @@ same_group day y s s2 g g2 b b2 n n2 es eg eb en =
 
 -- one more group after those of n days
 pub groups_more : (line : List Span) (stretches : List Judged) (day y n : ℕ) (groups group : List ℕ)
-    → AreDayGroups line stretches day y n groups → IsDayGroup line stretches (day + n) (y + 36 * n) group
+    → AreDayGroups line stretches day y n groups → IsDayGroup line stretches (day + n) (y + 42 * n) group
     → AreDayGroups line stretches day y (suc n) (groups ++ group)
 groups_more line stretches day y zero groups group are is =
     let d : day + zero ≡ day = omega arith in
-    let h : y + 36 * zero ≡ y = omega arith in
+    let h : y + 42 * zero ≡ y = omega arith in
     (group, [], rw are (sym (append-nil group)), subst (λ (k : ℕ). IsDayGroup line stretches k y group) d (subst (λ (k : ℕ). IsDayGroup line stretches (day + zero) k group) h is), refl)
 groups_more line stretches day y (suc n) groups group are is =
     let (one, rest, whole, first, others) = are in
     let d : day + suc n ≡ (day + 1) + n = omega arith in
-    let h : y + 36 * suc n ≡ (y + 36) + 36 * n = omega arith in
-    let last = subst (λ (k : ℕ). IsDayGroup line stretches k ((y + 36) + 36 * n) group) d (subst (λ (k : ℕ). IsDayGroup line stretches (day + suc n) k group) h is) in (
+    let h : y + 42 * suc n ≡ (y + 42) + 42 * n = omega arith in
+    let last = subst (λ (k : ℕ). IsDayGroup line stretches k ((y + 42) + 42 * n) group) d (subst (λ (k : ℕ). IsDayGroup line stretches (day + suc n) k group) h is) in (
       one,
       rest ++ group,
       ap (λ (t : List ℕ). t ++ group) whole ∙ append_assoc one rest group,
       first,
-      groups_more line stretches (day + 1) (y + 36) n rest group others last,
+      groups_more line stretches (day + 1) (y + 42) n rest group others last,
     )
 
 -- a chart that was written piece by piece
@@ -215,24 +215,24 @@ has_day line stretches day y zero text are k lt = absurd (omega arith)
 has_day line stretches day y (suc n) text are zero lt =
     let (group, rest, whole, first, others) = are in
     let d : day + zero ≡ day = omega arith in
-    let h : y + 36 * zero ≡ y = omega arith in
+    let h : y + 42 * zero ≡ y = omega arith in
     record {
       before = [];
       group = group;
       after = rest;
-      is = subst (λ (i : ℕ). IsDayGroup line stretches i (y + 36 * zero) group) (sym d) (subst (λ (i : ℕ). IsDayGroup line stretches day i group) (sym h) first);
+      is = subst (λ (i : ℕ). IsDayGroup line stretches i (y + 42 * zero) group) (sym d) (subst (λ (i : ℕ). IsDayGroup line stretches day i group) (sym h) first);
       whole = whole;
     }
 has_day line stretches day y (suc n) text are (suc k) lt =
     let (group, rest, whole, first, others) = are in
-    let there = has_day line stretches (day + 1) (y + 36) n rest others k (omega arith) in
+    let there = has_day line stretches (day + 1) (y + 42) n rest others k (omega arith) in
     let d : (day + 1) + k ≡ day + suc k = omega arith in
-    let h : (y + 36) + 36 * k ≡ y + 36 * suc k = omega arith in
+    let h : (y + 42) + 42 * k ≡ y + 42 * suc k = omega arith in
     record {
       before = group ++ there.before;
       group = there.group;
       after = there.after;
-      is = subst (λ (i : ℕ). IsDayGroup line stretches i (y + 36 * suc k) there.group) d (subst (λ (i : ℕ). IsDayGroup line stretches ((day + 1) + k) i there.group) h there.is);
+      is = subst (λ (i : ℕ). IsDayGroup line stretches i (y + 42 * suc k) there.group) d (subst (λ (i : ℕ). IsDayGroup line stretches ((day + 1) + k) i there.group) h there.is);
       whole = whole ∙ ap (λ (t : List ℕ). group ++ t) there.whole ∙ sym (append_assoc group there.before (there.group ++ there.after));
     }
 
@@ -282,7 +282,7 @@ module _ (one_gaps : (line : List Span) (start past : ℕ) (gaps others : List G
       let (one, rest, whole, first, others) = g in
       let (one', rest', whole', first', others') = h in
       whole ∙ ap (λ (x : List ℕ). x ++ rest) (one_group line stretches day y one one' first first')
-      ∙ ap (λ (x : List ℕ). one' ++ x) (one_groups line stretches (day + 1) (y + 36) n rest rest' others others') ∙ sym whole'
+      ∙ ap (λ (x : List ℕ). one' ++ x) (one_groups line stretches (day + 1) (y + 42) n rest rest' others others') ∙ sym whole'
 
   pub one_chart : (number : ℕ) (name : List ℕ) (line : List Span) (stretches : List Judged) (month : ℕ) (a b : List ℕ)
       → IsMonthChart number name line stretches month a → IsMonthChart number name line stretches month b → a ≡ b
@@ -319,7 +319,7 @@ groups_same a b stretches day y (suc n) text e g =
       rest,
       whole,
       group_same a b stretches day y one (λ m w. let x = w.0 in let z = w.1 in e m (omega arith, omega arith)) first,
-      groups_same a b stretches (day + 1) (y + 36) n rest (λ m w. let x = w.0 in let z = w.1 in e m (omega arith, omega arith)) others,
+      groups_same a b stretches (day + 1) (y + 42) n rest (λ m w. let x = w.0 in let z = w.1 in e m (omega arith, omega arith)) others,
     )
 
 pub chart_same : (number : ℕ) (name : List ℕ) (a b : List Span) (stretches : List Judged) (month : ℕ) (text : List ℕ)

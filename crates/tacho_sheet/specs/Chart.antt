@@ -1,5 +1,5 @@
 -- Trusted: The chart of a driver's month: SVG 1.1 with a row for each day, in which x is the minute of the day.
-use Rattle.std.specs.Prelude.{◌≡◌, ℕ, zero, suc, ◌+◌, ◌-◌, ◌*◌, ◌%◌, ◌==◌, ◌||◌, ◌⊎◌, ◌↔◌, Bool, true, false, List, [], ◌∷◌, ◌++◌, Option, None, Some, chars, codes, decimal, encode_utf8, flat_map, if◌then◌else◌}
+use Rattle.std.specs.Prelude.{◌≡◌, ℕ, zero, suc, ◌+◌, ◌-◌, ◌*◌, ◌%◌, ◌==◌, ◌||◌, ◌⊎◌, ◌↔◌, nat_le, Bool, true, false, List, [], ◌∷◌, ◌++◌, Option, None, Some, chars, codes, decimal, encode_utf8, flat_map, if◌then◌else◌}
 use Rattle.tacho_time.specs.declared.span.Activity.{Activity}
 use Rattle.tacho_time.specs.declared.span.Activity.TheVariants.{Rest, Available, Work, Drive}
 use Rattle.tacho_time.specs.declared.span.Span.{Span}
@@ -64,7 +64,7 @@ bar first s = bar_rect s.mark (s.start - first) (s.past - s.start) ++ bar_title 
 
 -- a range of the day that isn't within a stretch
 abbrev pub shade_rect : ℕ → ℕ → List ℕ
-shade_rect x width = codes "<rect class=\"unseen\" x=\"" ++ (decimal x ++ (codes "\" y=\"0\" width=\"" ++ (decimal width ++ codes "\" height=\"36\"/>\n")))
+shade_rect x width = codes "<rect class=\"unseen\" x=\"" ++ (decimal x ++ (codes "\" y=\"-5\" width=\"" ++ (decimal width ++ codes "\" height=\"42\"/>\n")))
 
 abbrev pub shade : ℕ → Gap → List ℕ
 shade first g = shade_rect (g.start - first) (g.past - g.start)
@@ -75,8 +75,13 @@ breach_title b =
     codes "<g class=\"breach\"><title>" ++ (kind_name b.kind ++ (codes " at " ++ (minute_text b.moment ++ (codes " since "
     ++ (minute_text b.since ++ (codes " amount " ++ (decimal b.amount ++ codes "</title>")))))))
 
+-- a flag above the row, and its pole, which goes down to the row's foot: it hides no bar; to the left after 23:00, so that it stays above
+-- the row
+abbrev pub flag_shape : ℕ → List ℕ
+flag_shape x = if nat_le x 1380 then codes " -9h11l-3 4 3 4h-8v33h-3z" else codes " -9h-11l3 4-3 4h11v33h3v-41z"
+
 abbrev pub breach_path : ℕ → List ℕ
-breach_path x = codes "<path d=\"M" ++ (decimal x ++ codes " 0h6v36h-6z\"/></g>\n")
+breach_path x = codes "<path d=\"M" ++ (decimal x ++ (flag_shape x ++ codes "\"/></g>\n"))
 
 abbrev pub breach_mark : ℕ → Breach → List ℕ
 breach_mark first b = breach_title b ++ breach_path (b.moment - first)
@@ -132,12 +137,12 @@ pub record IsDayGroup (line : List Span) (stretches : List Judged) (day y : ℕ)
   pub marked : breaches ≡ month_breaches (1440 * day) (1440 * (day + 1)) stretches
   pub is : text ≡ day_group day y spans gaps breaches (column_minutes line (1440 * day) 1440 (is_single_minute Drive))
 
--- the groups of n days, from a day on, each 36 below the one before
+-- the groups of n days, from a day on, each 42 below the one before
 abbrev pub AreDayGroups : List Span → List Judged → ℕ → ℕ → ℕ → List ℕ → Type 0
 AreDayGroups line stretches day y zero text = text ≡ []
 AreDayGroups line stretches day y (suc n) text =
     (group : List ℕ) × (groups : List ℕ) × (text ≡ group ++ groups) × IsDayGroup line stretches day y group
-    × AreDayGroups line stretches (day + 1) (y + 36) n groups
+    × AreDayGroups line stretches (day + 1) (y + 42) n groups
 
 -- ---- what is drawn over a minute
 
@@ -161,7 +166,7 @@ pub record HasDayGroup (line : List Span) (stretches : List Judged) (day y k : �
   pub before : List ℕ
   pub group : List ℕ
   pub after : List ℕ
-  pub is : IsDayGroup line stretches (day + k) (y + 36 * k) group
+  pub is : IsDayGroup line stretches (day + k) (y + 42 * k) group
   pub whole : text ≡ before ++ (group ++ after)
 
 -- ---- a month
@@ -169,10 +174,10 @@ pub record HasDayGroup (line : List Span) (stretches : List Judged) (day y k : �
 -- the style, and a white ground, so that the texts can also be read on a dark page
 abbrev pub chart_style : List ℕ
 chart_style =
-    codes "<style>text{fill:#222}.right{text-anchor:end}.middle{text-anchor:middle}.back{fill:#fafafa;stroke:#aaa}.hour{stroke:#d0d0d0}"
-    ++ (codes ".rest{fill:#8fb8de}.available{fill:#c9b3e0}.work{fill:#f0a030}.drive{fill:#1f4e79}"
-    ++ (codes ".crew{fill-opacity:.45;stroke:#222;stroke-dasharray:4 3}.unseen{fill:#555;fill-opacity:.16}"
-    ++ codes ".breach path,.mark{fill:#c00000;stroke:#fff;stroke-width:2}.code{fill:#c00000;font-weight:bold;font-size:15px}</style>\n<rect width=\"100%\" height=\"100%\" fill=\"#fff\"/>\n"))
+    codes "<style>text{fill:#1c2128}.right{text-anchor:end}.middle{text-anchor:middle}.back{fill:#f0f2f4;stroke:#767e87}.hour{stroke:#d7dbe0}"
+    ++ (codes ".rest{fill:#5b8fc2}.available{fill:#9270c4}.work{fill:#b87100}.drive{fill:#1f4e79}"
+    ++ (codes ".crew{fill-opacity:.4;stroke:#1c2128;stroke-dasharray:4 3}.unseen{fill:#55606b;fill-opacity:.2}"
+    ++ codes ".breach path,.mark{fill:#a8201a;stroke:#fff}.code{fill:#a8201a;font-weight:bold;font-size:15px}</style>\n<rect width=\"100%\" height=\"100%\" fill=\"#fff\"/>\n"))
 
 -- above the days: what the hours are in, and what the amounts at the right are
 abbrev pub chart_columns : List ℕ
@@ -194,7 +199,7 @@ chart_afternoon =
 -- the picture of a month of n days
 abbrev pub chart_open : ℕ → List ℕ
 chart_open days =
-    codes "<svg xmlns=\"http://www.w3.org/2000/svg\" viewBox=\"0 0 1920 " ++ (decimal (160 + 36 * days)
+    codes "<svg xmlns=\"http://www.w3.org/2000/svg\" viewBox=\"0 0 1920 " ++ (decimal (160 + 42 * days)
     ++ codes "\" font-family=\"sans-serif\" font-size=\"20\" role=\"img\">\n")
 
 -- the title, for programs and for people
@@ -216,7 +221,7 @@ chart_head number name month days = chart_front (chart_title number name month) 
 
 -- after them: what the bars mean, and the rest
 abbrev pub legend_open : ℕ → List ℕ
-legend_open days = codes "<g transform=\"translate(200 " ++ (decimal (112 + 36 * days) ++ codes ")\">\n")
+legend_open days = codes "<g transform=\"translate(200 " ++ (decimal (112 + 42 * days) ++ codes ")\">\n")
 
 abbrev pub legend_bars : List ℕ
 legend_bars =
@@ -230,7 +235,7 @@ legend_others =
     codes "<rect class=\"drive crew\" x=\"700\" y=\"4\" width=\"40\" height=\"28\"/><text x=\"750\" y=\"32\">second driver</text>\n"
     ++ (codes "<rect class=\"back\" x=\"930\" y=\"4\" width=\"40\" height=\"28\"/><text x=\"980\" y=\"32\">not known</text>\n"
     ++ (codes "<rect class=\"unseen\" x=\"1120\" y=\"0\" width=\"40\" height=\"36\"/><text x=\"1170\" y=\"32\">not examined</text>\n"
-    ++ codes "<path class=\"mark\" d=\"M1340 0h6v36h-6z\"/><text x=\"1360\" y=\"32\">breach</text>\n</g>\n</svg>\n"))
+    ++ codes "<path class=\"mark\" d=\"M1340 -9h11l-3 4 3 4h-8v33h-3z\"/><text x=\"1360\" y=\"32\">breach</text>\n</g>\n</svg>\n"))
 
 abbrev pub chart_legend : ℕ → List ℕ
 chart_legend days = legend_open days ++ (legend_bars ++ legend_others)

@@ -7,7 +7,7 @@ ghost use Rattle.tacho_stretches.specs.Stretches.{judged_of, Judged};
 ghost use Rattle.tacho_line.specs.Line.{AreGaps, HoldsWithin};
 ghost use Rattle.tacho_sheet.specs.Reports.{breaches_within};
 ghost use Rattle.tacho_sheet.specs.Months.{month_breaches};
-ghost use Rattle.tacho_sheet.specs.Chart.{bar, bar_height, bar_rect, bar_title, bar_top, breach_code as code_after_space, breach_mark, breach_path, breach_title, chart_afternoon, chart_columns, chart_front, chart_hours, chart_legend, chart_morning, chart_style, chart_title, crew_class, day_end, day_grid, day_group, day_head, day_label, day_open, legend_bars, legend_others, shade, shade_rect, xml_char, xml_text, AreDayGroups, IsDayGroup, IsMonthChart};
+ghost use Rattle.tacho_sheet.specs.Chart.{bar, bar_height, bar_rect, bar_title, bar_top, breach_code as code_after_space, breach_mark, breach_path, breach_title, chart_afternoon, chart_columns, chart_front, chart_hours, chart_legend, chart_morning, chart_style, chart_title, crew_class, day_end, day_grid, day_group, day_head, day_label, day_open, flag_shape, legend_bars, legend_others, shade, shade_rect, xml_char, xml_text, AreDayGroups, IsDayGroup, IsMonthChart};
 ghost use Rattle.tacho_sheet.specs.Seen.{seen_span, seen_spans};
 
 use crate::amounts::amounts_of_day;
@@ -24,7 +24,7 @@ use tacho_time::{
 };
 
 /// The height of a day's row, and where the first row begins.
-const ROW: u32 = 36;
+const ROW: u32 = 42;
 
 const TOP: u32 = 100;
 
@@ -167,16 +167,16 @@ fn push_style(text: &mut String) -> Result<(), AllocError>
     ensures { OnOk result (string_bytes text.new ≡ string_bytes text.old ++ chart_style) }
 {
     text.push_str(
-        "<style>text{fill:#222}.right{text-anchor:end}.middle{text-anchor:middle}.back{fill:#fafafa;stroke:#aaa}.hour{stroke:#d0d0d0}",
+        "<style>text{fill:#1c2128}.right{text-anchor:end}.middle{text-anchor:middle}.back{fill:#f0f2f4;stroke:#767e87}.hour{stroke:#d7dbe0}",
     )?;
     text.push_str(
-        ".rest{fill:#8fb8de}.available{fill:#c9b3e0}.work{fill:#f0a030}.drive{fill:#1f4e79}",
+        ".rest{fill:#5b8fc2}.available{fill:#9270c4}.work{fill:#b87100}.drive{fill:#1f4e79}",
     )?;
     text.push_str(
-        ".crew{fill-opacity:.45;stroke:#222;stroke-dasharray:4 3}.unseen{fill:#555;fill-opacity:.16}",
+        ".crew{fill-opacity:.4;stroke:#1c2128;stroke-dasharray:4 3}.unseen{fill:#55606b;fill-opacity:.2}",
     )?;
     text.push_str(
-        ".breach path,.mark{fill:#c00000;stroke:#fff;stroke-width:2}.code{fill:#c00000;font-weight:bold;font-size:15px}</style>\n<rect width=\"100%\" height=\"100%\" fill=\"#fff\"/>\n",
+        ".breach path,.mark{fill:#a8201a;stroke:#fff}.code{fill:#a8201a;font-weight:bold;font-size:15px}</style>\n<rect width=\"100%\" height=\"100%\" fill=\"#fff\"/>\n",
     )
 }
 
@@ -480,7 +480,7 @@ fn push_shade_rect(text: &mut String, x: u32, width: u32) -> Result<(), AllocErr
 {
     write!(
         text,
-        "<rect class=\"unseen\" x=\"{x}\" y=\"0\" width=\"{width}\" height=\"36\"/>\n"
+        "<rect class=\"unseen\" x=\"{x}\" y=\"-5\" width=\"{width}\" height=\"42\"/>\n"
     )
 }
 
@@ -517,11 +517,23 @@ fn push_breach_title(text: &mut String, breach: &Breach) -> Result<(), AllocErro
     )
 }
 
-/// Appends a mark at `x`.
+/// Appends a mark at `x`: a flag above the row, and its pole.
 fn push_path(text: &mut String, x: u32) -> Result<(), AllocError>
     ensures { OnOk result (string_bytes text.new ≡ string_bytes text.old ++ breach_path x) }
 {
-    write!(text, "<path d=\"M{x} 0h6v36h-6z\"/></g>\n")
+    let flag = flag_at(x);
+    write!(text, "<path d=\"M{x}{flag}\"/></g>\n")
+}
+
+/// The flag of a mark at `x`, and its pole: to the left after 23:00, so that it stays above the row.
+fn flag_at(x: u32) -> &'static str
+    ensures { result.now ≡ flag_shape x }
+{
+    if x <= 23 * 60 {
+        " -9h11l-3 4 3 4h-8v33h-3z"
+    } else {
+        " -9h-11l3 4-3 4h11v33h3v-41z"
+    }
 }
 
 /// Appends the day's driving without a second driver, and the codes of its breaches.
@@ -589,6 +601,6 @@ fn push_legend_others(text: &mut String) -> Result<(), AllocError>
         "<rect class=\"unseen\" x=\"1120\" y=\"0\" width=\"40\" height=\"36\"/><text x=\"1170\" y=\"32\">not examined</text>\n",
     )?;
     text.push_str(
-        "<path class=\"mark\" d=\"M1340 0h6v36h-6z\"/><text x=\"1360\" y=\"32\">breach</text>\n</g>\n</svg>\n",
+        "<path class=\"mark\" d=\"M1340 -9h11l-3 4 3 4h-8v33h-3z\"/><text x=\"1360\" y=\"32\">breach</text>\n</g>\n</svg>\n",
     )
 }

@@ -16,8 +16,8 @@ loop-number-preserved c stretches seen found =
     let (group, pushed, is) = c.in_ok-push_day.ensures stretches (1440 * first) (1440 * c.args.past) seen found low high in
     let here : c.new.result ≡ first + (day - first) = omega (arith, c.new.ensures) in
     let many : suc (day - first) ≡ (day + 1) - first = omega arith in
-    let placed = subst (λ (x : ℕ). IsDayGroup line stretches c.new.result (100 + 36 * (day - x)) group) c.number.ensures.value is in
-    let own = subst (λ (k : ℕ). IsDayGroup line stretches k (100 + 36 * (day - first)) group) here placed in
+    let placed = subst (λ (x : ℕ). IsDayGroup line stretches c.new.result (100 + 42 * (day - x)) group) c.number.ensures.value is in
+    let own = subst (λ (k : ℕ). IsDayGroup line stretches k (100 + 42 * (day - first)) group) here placed in
     let all = groups_more line stretches first 100 (day - first) groups group are own in (
       groups ++ group,
       pushed ∙ ap (λ (t : List ℕ). t ++ group) so ∙ append_assoc (string_bytes c.args.text.now) groups group,
