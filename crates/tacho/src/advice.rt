@@ -13,9 +13,9 @@ const NO_CARD: &str = "this is no whole card file: read the card again";
 pub const NO_PORT: &str =
     "the port is taken or may not be used, or no connection can be accepted there";
 
-/// The sentence if the store has failed under a server, or the paths of its files no longer find them.
+/// The sentence if the store has failed under a server, or somebody else has changed, replaced or moved its files.
 pub const LOST: &str =
-    "its file or its log was moved, replaced or cut during service, or its disk failed";
+    "its file or its log was moved, replaced or changed during service, or its disk failed";
 
 /// The sentence if the place of a new archive is taken.
 pub const TAKEN: &str =

@@ -13,7 +13,7 @@ use std::io::IsTerminal;
 use tacho_check::{Unsound, check, check_text};
 use tacho_cli::{CardFiles, DeskJob, answer_at_desk, import_files, read_input, tell_answer};
 use tacho_desk::{Fault, part_of};
-use tacho_disk::{NotOwned, Watched, cause_of, make_own};
+use tacho_disk::{NotOwned, Watched, cause_of, make_own, own_place};
 use tacho_http::PageFile;
 use tacho_pages::page_files;
 use tacho_serve::{Place, ServeFault, listen, serve};
@@ -57,7 +57,7 @@ enum Ending {
     Refused(Fault),
     /// A server can't have its port, or no connections there.
     NoPort,
-    /// The store failed under a server, or the paths of its files no longer find them.
+    /// The store failed under a server, or somebody else has changed, replaced or moved its files.
     Lost,
 }
 
@@ -203,8 +203,12 @@ fn import_all<S: Alter + Drop>(
 struct Files<'a>(Watched<'a>);
 
 impl Place for Files<'_> {
-    fn is_there(&mut self, rt: &HostRuntime) -> bool {
-        self.0.are_there(rt)
+    fn note(&mut self, rt: &HostRuntime) {
+        self.0.note(rt);
+    }
+
+    fn is_unchanged(&self, rt: &HostRuntime) -> bool {
+        self.0.are_unchanged(rt)
     }
 }
 
@@ -215,7 +219,8 @@ fn show_address(rt: &HostRuntime, port: u16) {
     }
 }
 
-/// `tacho serve`, and `tacho listen` with the page files: answers `count` connections on a port of 127.0.0.1, at an existing archive.
+/// `tacho serve`, and `tacho listen` with the page files: answers `count` connections on a port of 127.0.0.1, at an existing archive. Once its
+/// files are lost no connection is left to close, so that nothing is written to what is in their place.
 fn serve_requests<S: Alter + Drop>(
     rt: &HostRuntime,
     conn: Connection<S>,
@@ -224,18 +229,18 @@ fn serve_requests<S: Alter + Drop>(
     port: u16,
     count: u32,
     files: &[PageFile],
-) -> (Ending, Connection<S>)
+) -> (Ending, Option<Connection<S>>)
     requires { conn.in_transaction ≡ false }
 {
     let mut archive = match Archive::adopt(conn) {
         Ok(archive) => archive,
-        Err(refusal) => return (refused(refusal.0), refusal.1),
+        Err(refusal) => return (refused(refusal.0), Some(refusal.1)),
     };
     let Ok(watched) = Watched::new(rt, path) else {
-        return (refused(StoreFault::Memory), archive.close());
+        return (refused(StoreFault::Memory), Some(archive.close()));
     };
     let Ok(listener) = listen(rt, port) else {
-        return (Ending::NoPort, archive.close());
+        return (Ending::NoPort, Some(archive.close()));
     };
     if !files.is_empty() {
         show_address(rt, port);
@@ -251,13 +256,14 @@ fn serve_requests<S: Alter + Drop>(
     ) {
         Ok(()) => Ending::Told(0, None),
         Err(ServeFault::Device) => Ending::NoPort,
-        Err(ServeFault::Store) => Ending::Lost,
+        Err(ServeFault::Store) => return (Ending::Lost, None),
         Err(ServeFault::Memory) => refused(StoreFault::Memory),
     };
-    (ending, archive.close())
+    (ending, Some(archive.close()))
 }
 
-/// Does the work at the archive of a connection to the file with this path. Returns the connection, unless the work was a check.
+/// Does the work at the archive of a connection to the file with this path, which has no links. Returns the connection, unless the work was a
+/// check, or the files are lost.
 fn at_connection<S: Alter + Drop>(
     rt: &HostRuntime,
     conn: Connection<S>,
@@ -273,34 +279,45 @@ fn at_connection<S: Alter + Drop>(
         Work::Migrate => migrate_archive(conn),
         Work::Task(job) => do_task(rt, conn, job),
         Work::Import { part, names } => import_all(rt, conn, part, names),
-        Work::Serve { key, port, count } => serve_requests(rt, conn, path, key, port, count, &[]),
+        Work::Serve { key, port, count } => {
+            return serve_requests(rt, conn, path, key, port, count, &[]);
+        }
         Work::Listen { key, port, count } => {
-            serve_requests(rt, conn, path, key, port, count, &page_files())
-        },
+            return serve_requests(rt, conn, path, key, port, count, &page_files());
+        }
     };
     (ending, Some(conn))
 }
 
+/// The fault of files that aren't the user's.
+fn not_owned(fault: NotOwned) -> StoreFault {
+    match fault {
+        NotOwned::File => StoreFault::Store,
+        NotOwned::Memory => StoreFault::Memory,
+    }
+}
+
 /// Opens an archive's file: a new one if the archive is to be made, otherwise an existing one. A new file gets checksums of its pages, by which
-/// later opens find what was changed in it.
-fn open_file(rt: &HostRuntime, path: &str, work: Work<'_>) -> Result<FileConnection, StoreFault> {
+/// later opens find what was changed in it. Returns the file's path without links, too.
+fn open_file(
+    rt: &HostRuntime,
+    path: &str,
+    work: Work<'_>,
+) -> Result<(String, FileConnection), StoreFault> {
     if matches!(work, Work::Create) {
-        match make_own(rt, path) {
-            Ok(()) => (),
-            Err(NotOwned::File) => return Err(StoreFault::Store),
-            Err(NotOwned::Memory) => return Err(StoreFault::Memory),
-        }
+        make_own(rt, path).map_err(not_owned)?;
     }
     connect(rt, path)
 }
 
-/// Opens an archive's file, which is there.
-pub(crate) fn connect(rt: &HostRuntime, path: &str) -> Result<FileConnection, StoreFault> {
-    if !matches!(fs::exists(rt, path), Ok(true)) {
-        return Err(StoreFault::Store);
-    }
-    match Connection::open_with_sums(rt, path) {
-        Ok(conn) => Ok(conn),
+/// Opens an archive's file, which is there and belongs to the user. Returns its path without links, too.
+pub(crate) fn connect(
+    rt: &HostRuntime,
+    path: &str,
+) -> Result<(String, FileConnection), StoreFault> {
+    let place = own_place(rt, path).map_err(not_owned)?;
+    match Connection::open_with_sums(rt, &place) {
+        Ok(conn) => Ok((place, conn)),
         Err(Error::SqliteFailure(ErrorCode::OutOfMemory)) => Err(StoreFault::Memory),
         Err(_) => Err(StoreFault::Store),
     }
@@ -337,8 +354,8 @@ fn advise(rt: &HostRuntime, path: &str, work: Work<'_>, ending: &Ending) {
 pub fn at_file(rt: &HostRuntime, path: &str, work: Work<'_>) -> u8 {
     announce(rt, path);
     let ending = match open_file(rt, path, work) {
-        Ok(conn) => {
-            let (ending, conn) = at_connection(rt, conn, path, work);
+        Ok((place, conn)) => {
+            let (ending, conn) = at_connection(rt, conn, &place, work);
             if let Some(conn) = conn {
                 let _ = conn.close();
             }

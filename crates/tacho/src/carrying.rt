@@ -98,7 +98,7 @@ fn fill_part(
     from: Day,
 ) -> (Result<Carried, Failed>, FileConnection) {
     match connect(rt, part) {
-        Ok(new) => fill(rt, old, new, from),
+        Ok((_, new)) => fill(rt, old, new, from),
         Err(fault) => (Err(Failed::New(fault)), old),
     }
 }
@@ -156,7 +156,7 @@ fn carry_from(
 /// copied from its log into its file.
 fn carry_files(rt: &HostRuntime, path: &str, new: &str, from: Day) -> Result<Carried, Failed> {
     match connect(rt, path) {
-        Ok(old) => carry_from(rt, old, new, from).0,
+        Ok((_, old)) => carry_from(rt, old, new, from).0,
         Err(fault) => Err(Failed::Old(fault)),
     }
 }

@@ -1,73 +1,135 @@
-//! The files of an open archive, which stay where they are.
+//! The files of an open archive, which nobody else changes.
+
+ghost use Rattle.std.specs.Prelude.{◌≡◌, ◌↔◌, true};
 
 use std::alloc::AllocError;
 use std::fs;
+use std::io::{self, ErrorKind, Read};
 use std::os::unix::fs::MetadataExt;
 
-/// A file as its path finds it: the device that it is on, its number there, and its length in bytes.
+/// How many bytes of a log are noted: its head, which is a new one each time that the log begins anew.
+const HEAD: usize = 32;
+
+/// What is noted of a file: the device that it is on, its number there, its length in bytes, and when anything of it was last changed. Of a
+/// log its first bytes too, or zeros if it is shorter.
 #[derive(Clone, Copy)]
-struct Found {
+struct Note {
     device: u64,
     number: u64,
     length: u64,
+    seconds: i64,
+    nanoseconds: i64,
+    head: [u8; HEAD],
 }
 
-/// The file that a path finds, if it finds one.
-fn found_at(rt: &HostRuntime, path: &str) -> Option<Found> {
-    match fs::metadata(rt, path) {
-        Ok(found) => Some(Found {
-            device: found.dev(),
-            number: found.ino(),
-            length: found.len(),
-        }),
-        Err(_) => None,
-    }
+/// What is noted of an archive: its file, and its log if it has one.
+#[derive(Clone, Copy)]
+struct Notes {
+    file: Note,
+    log: Option<Note>,
 }
 
-/// True if the file that was found before is found again, and isn't shorter: an open archive never shortens its files.
-fn is_same(before: Option<Found>, now: Option<Found>) -> bool {
-    match (before, now) {
-        (Some(before), Some(now)) => {
-            now.device == before.device
-                && now.number == before.number
-                && now.length >= before.length
-        }
+/// True if two notes are the same.
+fn is_same(before: &Note, now: &Note) -> bool
+    ensures { (result ≡ true) ↔ (before.now ≡ now.now) }
+{
+    before.device == now.device
+        && before.number == now.number
+        && before.length == now.length
+        && before.seconds == now.seconds
+        && before.nanoseconds == now.nanoseconds
+        && before.head == now.head
+}
+
+/// True if two notes of an archive are the same: also if it had no log, and has none now.
+fn are_same(before: &Notes, now: &Notes) -> bool
+    ensures { (result ≡ true) ↔ (before.now ≡ now.now) }
+{
+    let is_log_same = match (&before.log, &now.log) {
+        (Some(before), Some(now)) => is_same(before, now),
+        (None, None) => true,
         _ => false,
+    };
+    is_log_same && is_same(&before.file, &now.file)
+}
+
+/// Notes a file. A link isn't followed, and only a regular file can be noted.
+fn note_of(rt: &HostRuntime, path: &str) -> io::Result<Note> {
+    let found = fs::symlink_metadata(rt, path)?;
+    if !found.is_file() {
+        return Err(io::Error::from(ErrorKind::InvalidInput));
+    }
+    Ok(Note {
+        device: found.dev(),
+        number: found.ino(),
+        length: found.len(),
+        seconds: found.ctime(),
+        nanoseconds: found.ctime_nsec(),
+        head: [0; HEAD],
+    })
+}
+
+/// The first bytes of a log of this length in bytes, or zeros if it is shorter.
+fn head_of(rt: &HostRuntime, path: &str, length: u64) -> io::Result<[u8; HEAD]> {
+    let mut head = [0; HEAD];
+    if length >= 32 {
+        fs::File::open(rt, path)?.read_exact(&mut head)?;
+    }
+    Ok(head)
+}
+
+/// Notes a log. Nothing if there is none.
+fn note_of_log(rt: &HostRuntime, path: &str) -> io::Result<Option<Note>> {
+    match note_of(rt, path) {
+        Ok(note) => {
+            let head = head_of(rt, path, note.length)?;
+            Ok(Some(Note { head, ..note }))
+        }
+        Err(error) => match error.kind() {
+            ErrorKind::NotFound => Ok(None),
+            _ => Err(error),
+        },
     }
 }
 
-/// The files of an open archive, as their paths have last found them.
+/// The files of an open archive, and what was last noted of them.
 #[derive(Drop)]
 pub struct Watched<'a> {
     path: &'a str,
     log_path: String,
-    file: Option<Found>,
-    log: Option<Found>,
+    notes: Option<Notes>,
 }
 
 impl<'a> Watched<'a> {
-    /// The files of the archive that has just been opened.
+    /// Notes the files of the archive that has just been opened at a path, whose links are resolved.
     pub fn new(rt: &HostRuntime, path: &'a str) -> Result<Watched<'a>, AllocError> {
         let log_path = format!(in rt.alloc(); "{path}-wal")?;
-        let file = found_at(rt, path);
-        let log = found_at(rt, &log_path);
-        Ok(Watched {
+        let mut watched = Watched {
             path,
             log_path,
-            file,
-            log,
-        })
+            notes: None,
+        };
+        watched.note(rt);
+        Ok(watched)
     }
 
-    /// True if the paths still find the files that are open. If a file was removed, replaced or cut, what the archive goes on to write is lost
-    /// when it is closed.
-    pub fn are_there(&mut self, rt: &HostRuntime) -> bool {
-        let file = found_at(rt, self.path);
-        let log = found_at(rt, &self.log_path);
-        // The log may have been made since.
-        let are_there = is_same(self.file, file) && (self.log.is_none() || is_same(self.log, log));
-        self.file = file;
-        self.log = log;
-        are_there
+    /// What can be noted of the files now.
+    fn notes_now(&self, rt: &HostRuntime) -> io::Result<Notes> {
+        let file = note_of(rt, self.path)?;
+        let log = note_of_log(rt, &self.log_path)?;
+        Ok(Notes { file, log })
+    }
+
+    /// Notes the files after the archive itself has written to them.
+    pub fn note(&mut self, rt: &HostRuntime) {
+        self.notes = self.notes_now(rt).ok();
+    }
+
+    /// True if nobody has changed, replaced or moved the files since they were noted. False also if they can't be noted now, or couldn't then.
+    pub fn are_unchanged(&self, rt: &HostRuntime) -> bool {
+        match (&self.notes, self.notes_now(rt)) {
+            (Some(before), Ok(now)) => are_same(before, &now),
+            _ => false,
+        }
     }
 }

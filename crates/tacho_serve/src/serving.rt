@@ -28,7 +28,7 @@ pub enum ServeFault {
     /// The port is not available, or no more connections can be accepted.
     #[error("the port failed")]
     Device,
-    /// The archive's store has failed and was shut, or the archive is no longer in its place. Nothing can be answered until it is opened
+    /// The archive's store has failed and was shut, or somebody else has changed, replaced or moved its files. Nothing can be answered until it is opened
     /// again.
     #[error("the archive's store failed")]
     Store,
@@ -39,8 +39,11 @@ pub enum ServeFault {
 
 /// Where an archive is kept, beside the connection that keeps it open.
 pub trait Place {
-    /// True if it is still where it was opened. Otherwise what is written to it now may be lost when it is closed.
-    fn is_there(&mut self, rt: &HostRuntime) -> bool;
+    /// Notes the archive's files as they are now.
+    fn note(&mut self, rt: &HostRuntime);
+
+    /// True if nobody has changed, replaced or moved them since they were noted. Otherwise what is written to them now may be lost.
+    fn is_unchanged(&self, rt: &HostRuntime) -> bool;
 }
 
 /// Listens on a port of 127.0.0.1.
@@ -49,9 +52,9 @@ pub fn listen(rt: &HostRuntime, port: u16) -> Result<TcpListener, ServeFault> {
 }
 
 /// Accepts `count` connections on a port, and answers them one after the other, each within 30 seconds: requests for these page files, and
-/// those to the archive. A connection that sends nothing is
-/// closed, and delays no other. A fault of a connection ends only that connection. Once the archive is no longer in its place, no further
-/// connection is answered.
+/// those to the archive. A connection that sends nothing is closed, and delays no other. A fault of a connection ends only that connection.
+/// The place was noted before, and is noted after each answer: once it isn't as it was noted, no further connection is answered. A change
+/// during an answer isn't noticed.
 pub fn serve<K: Keeper, P: Place>(
     rt: &HostRuntime,
     keeper: &mut K,
@@ -73,13 +76,14 @@ pub fn serve<K: Keeper, P: Place>(
             Ok(None) => return Ok(()),
             Err(_) => return Err(ServeFault::Device),
         };
-        if !place.is_there(rt) {
+        if !place.is_unchanged(rt) {
             return Err(ServeFault::Store);
         }
         let _ = answer_one(rt, &routes, keeper, key, files, &stream);
         if has_failed(rt, keeper, key) {
             return Err(ServeFault::Store);
         }
+        place.note(rt);
     }
     Ok(())
 }
