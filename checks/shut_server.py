@@ -13,11 +13,13 @@ import errno
 import itertools
 import multiprocessing
 import os
+import re
 import shutil
 import stat
 import subprocess
 import sys
 import tempfile
+import time
 from typing import Any
 
 from lib import counting, files, killing, pools, programs
@@ -29,8 +31,11 @@ from slow import slow_server
 
 PROCESSES = 4  # each waits for its program most of the time
 STOPPED = b"stopped\n"
-LOST = "its file or its log was moved, replaced or cut during service, or its disk failed"
+LOST = "its file or its log was moved, replaced or changed during service, or its disk failed"
 BECOMES = ": what becomes of the server"
+
+# The seconds in which the clock of the file system surely goes on: it may count in hundredths of a second.
+TICK = 0.05
 
 # How many calls of the disk fail, and how many replies may be 503 then.
 STOPS = {"the disk stopped at": (None, 3), "the disk failed": (1, 1)}
@@ -253,7 +258,7 @@ def of_refused_modes(program):
                 yield f"{name} of mode {mode:03o}: its mode", modes(desk.path)[""], f"{mode:o}"
 
 
-# Files that go while the server runs
+# Files that others change while the server runs
 
 
 def replace(path):
@@ -261,30 +266,91 @@ def replace(path):
     os.replace(shutil.copy(path, path + ".copy"), path)
 
 
+def rewrite(path, at=0):
+    """Writes the byte that a file has at a place there once more."""
+    with open(path, "r+b") as file:
+        file.seek(at)
+        byte = file.read(1)
+        file.seek(at)
+        file.write(byte)
+
+
+def move_and_link(path):
+    """Moves a file, and links its path to it."""
+    os.rename(path, path + ".moved")
+    os.symlink(path + ".moved", path)
+
+
+def move_back(path):
+    """Moves a file, and back."""
+    os.rename(path, path + ".moved")
+    os.rename(path + ".moved", path)
+
+
+def restore_by(command):
+    """What copies the backup of an archive, which lies beside it, over its file and its log by a command with a source and a target."""
+    def restore(path):
+        for ending in ("", "-wal"):
+            paths = {"SOURCE": f"{path}.backup{ending}", "TARGET": path + ending}
+            subprocess.run([re.sub("SOURCE|TARGET", lambda found: paths[found[0]], word) for word in command], check=True)
+
+    return restore
+
+
+# What is done to an archive's files. A log is there already.
 LOSSES = {
     "the log removed": lambda path: os.remove(path + "-wal"),
     "the file removed": os.remove,
     "the log replaced": lambda path: replace(path + "-wal"),
     "the file replaced": replace,
-    "the log cut": lambda path: os.truncate(path + "-wal", 32),
+    "the log cut": lambda path: os.truncate(path + "-wal", 16),
     "the file cut": lambda path: os.truncate(path, 4096),
+    "the file made longer": lambda path: os.truncate(path, os.path.getsize(path) + 4096),
+    "a byte of the log written": lambda path: rewrite(path + "-wal"),
+    "a byte of the file written": lambda path: rewrite(path, 100),
+    "a backup copied": restore_by(["cp", "SOURCE", "TARGET"]),
+    "a backup cloned": restore_by(["cp", "--reflink=auto", "SOURCE", "TARGET"]),
+    "a backup written in place": restore_by(["dd", "if=SOURCE", "of=TARGET", "conv=notrunc", "status=none"]),
+    "the file moved and linked": move_and_link,
+    "the log moved and linked": lambda path: move_and_link(path + "-wal"),
+    "the file moved and moved back": move_back,
+    "the log moved and moved back": lambda path: move_back(path + "-wal"),
+    "another link to the file": lambda path: os.link(path, path + ".link"),
+    "the mode of the file": lambda path: os.chmod(path, 0o640),
+    "the mode of the log": lambda path: os.chmod(path + "-wal", 0o640),
 }
+if shutil.which("rsync"):
+    LOSSES["a backup synchronized"] = restore_by(["rsync", "--inplace", "--ignore-times", "SOURCE", "TARGET"])
+
+# Which requests the server answers before, and whether it serves the archive by a link.
+BEFORE = {"at rest": ([], False), "read": ([ENTRIES], False), "written": ([ENTRIES, ENTER], False), "written by a link": ([ENTER], True)}
 
 
-def of_lost_files(program, name):
-    """The comparisons of a server whose file or log goes: it takes no further connection, and says why."""
+def of_lost_files(program, name, kind):
+    """The comparisons of a server whose file or log others change: it takes no further connection, says why, and writes nothing more."""
+    requests, is_linked = BEFORE[kind]
+    name = f"{name}, {kind}"
     with tempfile.TemporaryDirectory() as folder:
         desk = Desk(program, folder)
         desk.prepare(WITH_DAY)
-        with Serving(program, desk.path, OFFICE, 4) as serving:
+        path = os.path.join(folder, "place", "linked.db") if is_linked else desk.path
+        if is_linked:
+            os.mkdir(os.path.dirname(path))
+            os.symlink(desk.path, path)
+        for ending in ("", "-wal"):
+            shutil.copy(desk.path + ending, f"{desk.path}.backup{ending}")
+        with Serving(program, path, OFFICE, 4) as serving:
             server = slow_server.Server(desk.office, OFFICE)
-            for request in (ENTRIES, ENTER):
+            for request in requests:
                 yield f"{name}: a reply before", serving.ask([request], False), server.reply(request)
-            LOSSES[name](desk.path)
+            time.sleep(TICK)
+            LOSSES[name.split(", ")[0]](desk.path)
+            left = files.both_of(desk.path)
             yield f"{name}: no reply after", serving.ask([ENTRIES], False), b""
             serving.lost = None
             yield f"{name}: the end", serving.end(), STORE_FAILED
-            yield f"{name}: the sentence", serving.errors, f"tacho: {desk.path}: {LOST}\n".encode()
+            yield f"{name}: the sentence", serving.errors, f"tacho: {path}: {LOST}\n".encode()
+            yield f"{name}: what is left", files.both_of(desk.path) == left, True
 
 
 CHANGED_BASES = 300  # requests of a server whose files stay
@@ -337,9 +403,11 @@ def of_refused_connections(program, compiler):
 
 
 def comparisons(program: str, compiler: str) -> counting.Comparisons:
+    if not shutil.which("rsync"):
+        print("left out: a backup by rsync, since it isn't installed: apt install rsync", flush=True)
     questions: list[tuple[Any, ...]] = [(of_case, program, compiler, case, kind) for case in CASES for kind in STOPS]
     questions += [(of_modes, program, 0o022), (of_modes, program, 0), (of_refused_modes, program), (of_empty_files, program)]
-    questions += [(of_lost_files, program, name) for name in LOSSES]
+    questions += [(of_lost_files, program, name, kind) for name in LOSSES for kind in BEFORE]
     questions += [(of_kept_files, program), (of_refused_connections, program, compiler)]
     kinds = set()
     with multiprocessing.Pool(PROCESSES) as pool:

@@ -63,22 +63,36 @@ pub fn own_place(rt: &HostRuntime, path: &str) -> Result<String, NotOwned> {
     }
 }
 
-/// Makes an empty file for a new archive, which only its owner reads and writes. If there is an empty file of the user's already, that one and
-/// its log are taken, and get that mode. Nothing is changed if there is another file, or a log alone. If the file isn't empty, the store
-/// reports it.
+/// Makes an empty file for a new archive, which only its owner reads and writes. If there is an empty file already, that one is taken, and an
+/// empty log too; they get that mode. Nothing is changed if one of them isn't a regular file of the user with one link, or if there is a log
+/// that isn't empty without its file. If the file isn't empty, the store reports it.
 pub fn make_own(rt: &HostRuntime, path: &str) -> Result<(), NotOwned> {
     let log = format!(in rt.alloc(); "{path}-wal")?;
     let user = user_of_process(rt)?;
     match (own_at(rt, path, user)?, own_at(rt, &log, user)?) {
-        (None, None) => make_empty(rt, path),
-        (None, Some(_)) => Err(NotOwned::File),
         (Some(file), _) if file.len() > 0 => Ok(()),
-        (Some(file), None) => close_to_others(rt, path, &file),
-        (Some(file), Some(log_file)) if log_file.nlink() == 1 => {
-            close_to_others(rt, path, &file)?;
-            close_to_others(rt, &log, &log_file)
+        (None, Some(log_file)) if log_file.len() > 0 => Err(NotOwned::File),
+        (file, log_file) if has_second_link(&file) || has_second_link(&log_file) => {
+            Err(NotOwned::File)
         }
-        _ => Err(NotOwned::File),
+        (file, log_file) => {
+            match file {
+                Some(file) => close_to_others(rt, path, &file)?,
+                None => make_empty(rt, path)?,
+            }
+            match log_file {
+                Some(log_file) => close_to_others(rt, &log, &log_file),
+                None => Ok(()),
+            }
+        }
+    }
+}
+
+/// True if a file has a second link.
+fn has_second_link(found: &Option<Metadata>) -> bool {
+    match found {
+        Some(found) => found.nlink() != 1,
+        None => false,
     }
 }
 
@@ -93,8 +107,8 @@ fn make_empty(rt: &HostRuntime, path: &str) -> Result<(), NotOwned> {
     Ok(())
 }
 
-/// Gives a file that mode, if it has one link. The mode is given to the file that is open, if it is the one that was found: meanwhile another
-/// one may have got the path.
+/// Gives a file that mode. The mode is given to the file that is open, if it is the one that was found: meanwhile another one may have got the
+/// path.
 fn close_to_others(rt: &HostRuntime, path: &str, found: &Metadata) -> Result<(), NotOwned> {
     let file = fs::File::open(rt, path)?;
     if !is_same(found, &file.metadata()?) {
