@@ -1,6 +1,6 @@
 #!/usr/bin/env python3
 """Starts the program as a server on a disk that stops at each of its calls in turn, or fails that call alone, and looks for a reply, a
-table or an end that is wrong; takes its files away while it runs, or refuses it connections; and looks at who may read the files that it
+table or an end that is wrong; changes, replaces or moves its files while it runs, or refuses it connections; and looks at who may read the files that it
 makes.
 
 A request that changes the archive is replied to as by a slow server, or with 503, and then the archive is as before it or as after it.
@@ -340,6 +340,7 @@ def of_lost_files(program, name, kind):
         for ending in ("", "-wal"):
             shutil.copy(desk.path + ending, f"{desk.path}.backup{ending}")
         with Serving(program, path, OFFICE, 4) as serving:
+            serving.wait()
             server = slow_server.Server(desk.office, OFFICE)
             for request in requests:
                 yield f"{name}: a reply before", serving.ask([request], False), server.reply(request)

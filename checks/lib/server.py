@@ -3,6 +3,7 @@ import contextlib
 import functools
 import itertools
 import os
+import pathlib
 import random
 import socket
 import subprocess
@@ -166,6 +167,14 @@ class Serving:
                 if self.process.poll() is not None or time.monotonic() > last:
                     raise
                 time.sleep(0.01)
+
+    def wait(self) -> None:
+        """Waits until the program listens, without a connection."""
+        last = time.monotonic() + SECONDS
+        while f" 0100007F:{self.port:04X} 00000000:0000 0A " not in pathlib.Path("/proc/net/tcp").read_text(encoding="ascii"):
+            if self.process.poll() is not None or time.monotonic() > last:
+                raise ConnectionRefusedError
+            time.sleep(0.01)
 
     def ask(self, pieces: Iterable[bytes], waits: bool) -> bytes | str:
         """The reply to a request in pieces, or why there was none; then no other is asked for. Where the program waits for it, the
