@@ -30,9 +30,12 @@ from lib.server import OFFICE, Serving, asking, free_port
 from lib.served import FIELDS, PAGES
 
 PAGE_FILES = [
-    "driver/driver.js", "driver/index.html", "driver/sentences.js", "shared/ask.js", "shared/dom.js", "shared/page.css", "shared/parts.js",
-    "shared/read.js", "shared/say.js", "shared/time.js", "shared/words.js",
+    "driver/driver.js", "driver/index.html", "shared/page.css", "shared/page.js", "shared/parts.js", "shared/read.js", "shared/say.js",
+    "shared/time.js",
 ]
+# The files with the sentences of each language, of which the page loads those of one.
+SENTENCES = {language: [f"{folder}/words-{language}.js" for folder in ("shared", "driver")] for language in ("en", "de")}
+ALL_FILES = [*PAGE_FILES, *SENTENCES["en"], *SENTENCES["de"]]
 # Modules of the folder shared that the driver's page doesn't load.
 OF_THE_OFFICE = ["shared/tables.js"]
 # The most that the page may have: bytes as they are and compressed, and requests.
@@ -347,10 +350,10 @@ DATA_FIELDS = {"cache-control": "no-store", "x-content-type-options": "nosniff"}
 
 def files() -> Comparisons:
     """The files of the page, as texts, and how large they are."""
-    texts = {name: read(os.path.join(PAGES, *name.split("/"))) for name in PAGE_FILES}
+    texts = {name: read(os.path.join(PAGES, *name.split("/"))) for name in ALL_FILES}
     for folder in ("driver", "shared"):
         names = [f"{folder}/{name}" for name in sorted(os.listdir(os.path.join(PAGES, folder)))]
-        others = [name for name in names if name not in PAGE_FILES and name not in OF_THE_OFFICE and name != UPLOADS]
+        others = [name for name in names if name not in ALL_FILES and name not in OF_THE_OFFICE and name != UPLOADS]
         yield f"other files of the folder {folder}", others, []
     for name, text in texts.items():
         yield f"what {name} may not have", [match[0] for form in FORBIDDEN for match in re.finditer(form, text.decode())], []
@@ -359,9 +362,10 @@ def files() -> Comparisons:
     yield "what index.html loads", sorted(loaded), sorted(["data:,", *(f"/{name}" for name in PAGE_FILES if name != "driver/index.html")])
     imported = {match for text in texts.values() for match in re.findall(r"from \"(/[^\"]*)\"", text.decode())}
     yield "modules that aren't named in index.html", sorted(imported - set(loaded)), []
-    compressed = sum(len(gzip.compress(text, 6)) for text in texts.values())
-    sizes = {"raw": sum(map(len, texts.values())), "compressed": compressed, "files": len(texts)}
-    yield "what is larger than it may be", [(name, size) for name, size in sizes.items() if size > LARGEST[name]], []
+    for language, names in SENTENCES.items():
+        given = [texts[name] for name in (*PAGE_FILES, *names)]
+        sizes = {"raw": sum(map(len, given)), "compressed": sum(len(gzip.compress(text, 6)) for text in given), "files": len(given)}
+        yield f"what is larger than it may be, {language}", [(name, size) for name, size in sizes.items() if size > LARGEST[name]], []
     yield "the line of the uploads", proxy.example().count(proxy.UPLOADS), 1
 
 
@@ -369,13 +373,13 @@ def replies_of_nginx(site: Site) -> Comparisons:
     """The replies of nginx: fields, methods, and paths."""
     port = site.shut.port
     for path, kind in [("/driver/", "text/html"), ("/driver/driver.js", "text/javascript"), ("/shared/page.css", "text/css"),
-                       ("/shared/words.js", "text/javascript")]:
+                       ("/shared/words-en.js", "text/javascript")]:
         status, fields, _ = by_nginx(port, "GET", path)
         yield f"the fields of {path}", (status, fields.get("content-type"), {name: fields.get(name) for name in FIELDS}), \
             (200, f"{kind}; charset=utf-8", FIELDS)
-    status, fields, body = by_nginx(port, "GET", "/shared/words.js", compressed=True)
+    status, fields, body = by_nginx(port, "GET", "/shared/words-en.js", compressed=True)
     yield "a compressed module", (status, fields.get("content-encoding"), gzip.decompress(body)), \
-        (200, "gzip", read(os.path.join(PAGES, "shared", "words.js")))
+        (200, "gzip", read(os.path.join(PAGES, "shared", "words-en.js")))
     for path, kind in [("/driver/uploads", "text/plain"), ("/me/owed", "text/plain; charset=utf-8")]:
         status, fields, _ = by_nginx(port, "GET", path, "anna-key-1", compressed=True)
         told = {name: fields.get(name) for name in ("content-type", "content-encoding", *FIELDS)}
@@ -383,7 +387,7 @@ def replies_of_nginx(site: Site) -> Comparisons:
         yield f"the fields of {path}", (status, told), (200, wanted)
     for method, path, wanted in [
         ("POST", "/me/cards/both", 405), ("PUT", "/me/owed", 405), ("HEAD", "/me/owed", 405), ("DELETE", "/me/owed", 405),
-        ("OPTIONS", "/me/owed", 405), ("GET", "/drivers/17/owed", 404), ("POST", "/driver/", 405), ("HEAD", "/shared/words.js", 405),
+        ("OPTIONS", "/me/owed", 405), ("GET", "/drivers/17/owed", 404), ("POST", "/driver/", 405), ("HEAD", "/shared/words-en.js", 405),
         ("GET", "/driver/nothing", 403), ("GET", "/driver/../nginx.conf", 404), ("GET", "/office/", 404), ("GET", "/office/office.js", 404),
         ("GET", "/driver/../office/", 404), ("GET", "/shared/%2e%2e/office/", 404), ("GET", "/", 404), ("GET", "/favicon.ico", 404),
     ]:
@@ -423,7 +427,8 @@ def set_clock(page: Page, clock: str) -> str:
 
 
 def sign_in(page: Page, key: str) -> None:
-    """Types a key, and presses Enter."""
+    """Types a key, and presses Enter, once the page has its sentences."""
+    page.until("""!document.querySelector("#sign-in").hidden""")
     page.run("""document.querySelector("#key").value = ""; document.querySelector("#key").focus();""")
     page.type(key)
     page.press("Enter")
@@ -441,13 +446,19 @@ def show(page: Page, month: str) -> None:
     page.until(IS_DONE)
 
 
-def speak(page: Page, language: str) -> None:
+def choose(page: Page, language: str) -> None:
     """Chooses a language."""
     page.run(f"""(() => {{
         const language = document.querySelector("#language");
         language.value = "{language}";
         language.dispatchEvent(new Event("change", {{ bubbles: true }}));
     }})()""")
+
+
+def speak(page: Page, language: str) -> None:
+    """Chooses a language, and waits until the page has it."""
+    choose(page, language)
+    page.until(f"document.documentElement.lang === '{language}'")
 
 
 def click(page: Page, selector: str) -> None:
@@ -469,6 +480,8 @@ def reload(page: Page, until: str) -> None:
     page.until(f"window.isOld === undefined && {until}")
 
 
+LOADED_SENTENCES = """performance.getEntriesByType("resource").map((one) => new URL(one.name).pathname)
+    .filter((path) => path.includes("/words-")).sort()"""
 MESSAGE = """(document.querySelector("#message p")?.textContent ?? "")"""
 KEPT = """[Object.entries(sessionStorage), Object.entries(localStorage), document.cookie]"""
 HAS_DATA = """!document.querySelector("#hours").hidden || document.querySelector("#hours").childNodes.length > 0
@@ -535,29 +548,14 @@ def months(site: Site, page: Page) -> Comparisons:
     speak(page, "en")
 
 
-WORDS = """Promise.all(["/shared/words.js", "/driver/sentences.js"].map((path) => import(path)))
-    .then(([{ WORDS }, { SENTENCES }]) => [WORDS, SENTENCES])"""
-
-
 def sentence_limits(page: Page) -> Comparisons:
-    """The sentence of each kind at many amounts, in both languages; and that all languages have the same sentences."""
+    """The sentence of each kind at many amounts, in both languages."""
     asked = {kind: AMOUNTS.get(kind, MINUTES) for kind in KINDS}
-    told = page.run(f"""{WORDS}.then(([words]) => Object.fromEntries(
-        Object.entries(words).map(([language, say]) => [language, Object.fromEntries(
-            Object.entries({json.dumps(asked)}).map(([kind, amounts]) => [kind, amounts.map((amount) => say[kind](amount))]))])))""")
     for language, sentences in BREACHES.items():
+        told = page.run(f"""import("/shared/words-{language}.js").then(({{ WORDS }}) => Object.fromEntries(
+            Object.entries({json.dumps(asked)}).map(([kind, amounts]) => [kind, amounts.map((amount) => WORDS[kind](amount))])))""")
         for kind, amounts in asked.items():
-            yield f"sentences of {kind} in {language}", plain(told[language][kind]), [sentences[kind](amount) for amount in amounts]
-    names = page.run(f"""{WORDS}.then((both) => both.map((tables) => {{
-        const named = (table, before) => Object.entries(table).flatMap(([name, what]) => typeof what === "object" && !Array.isArray(what)
-            ? named(what, before + name + ".") : [[before + name, typeof what, what.length > 0 || typeof what === "function"]]).sort();
-        return Object.values(tables).map((table) => named(table, ""));
-    }}))""")
-    yield "the languages", list(told), ["en", "de"]
-    for name, (english, *others) in zip(["all pages", "this page"], names, strict=True):
-        for other in others:
-            yield f"the names of the sentences of {name}", [one[:2] for one in other], [one[:2] for one in english]
-        yield f"an empty sentence of {name}", [one for table in (english, *others) for one, _, is_there in table if not is_there], []
+            yield f"sentences of {kind} in {language}", plain(told[kind]), [sentences[kind](amount) for amount in amounts]
 
 
 CHART_TOP = """document.querySelector("#chart .hours").getBoundingClientRect().top + scrollY"""
@@ -1041,7 +1039,7 @@ def quiet(page: Page, name: str, ports: Sequence[int]) -> Comparisons:
     paths = {re.sub(r"^https://[^/]*|#.*", "", address) for address in addresses if address.startswith("https:")}
     for form, word in [(r"\d{4}-\d\d-\d\d", "DAY"), (r"\d{4}-\d\d", "MONTH"), (r"\d\d:\d\d", "TIME")]:
         paths = {re.sub(form, word, path) for path in paths}
-    own = {"/driver/", "/driver/uploads", *(f"/{name}" for name in PAGE_FILES if name != "driver/index.html")}
+    own = {"/driver/", "/driver/uploads", *(f"/{name}" for name in ALL_FILES if name != "driver/index.html")}
     known = own | {f"/me/{one}" for one in READINGS}
     yield f"{name}: other paths", sorted(paths - known), []
     entries = []
@@ -1124,6 +1122,15 @@ def pages(site: Site, pictures: str) -> Comparisons:
         yield "the language of a German browser", page.run("[document.documentElement.lang, document.title]"), ["de", "Ihre Stunden"]
         sign_in(page, WRONG_KEY)
         yield "a wrong key in German", page.run(MESSAGE), OTHERS["de"]["bad key"]
+        yield "the sentences that are loaded", page.run(LOADED_SENTENCES), sorted(f"/{name}" for name in SENTENCES["de"])
+        page.call("Network.setBlockedURLs", urls=["*/words-en.js"])
+        choose(page, "en")
+        page.until(f"/Verbindung/.test({MESSAGE})")
+        yield "no connection to the English sentences", page.run(f"[{MESSAGE}, document.querySelector('#language').value]"), \
+            [OTHERS["de"]["no connection"], "de"]
+        page.call("Network.setBlockedURLs", urls=[])
+        speak(page, "en")
+        yield "then they are loaded", page.run("document.title"), "Your hours"
 
 
 def comparisons(program: str, pictures: str | None = None) -> Comparisons:

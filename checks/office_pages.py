@@ -608,10 +608,58 @@ def office_files() -> Comparisons:
         for name in each:
             text = read(os.path.join(PAGES, folder, name)).decode()
             yield f"what {name} may not have", [match[0] for form in FORBIDDEN for match in re.finditer(form, text)], []
-            yield f"the longest line of {name}", max(map(len, text.split("\n"))) <= 140 or name == "words.js", True
+            yield f"the longest line of {name}", max(map(len, text.split("\n"))) <= 140 or name.startswith("words-"), True
     page = read(os.path.join(PAGES, "office", "index.html")).decode()
     yield "what index.html loads", all(one.startswith(("data:,", "/shared/", "office."))
         for one in re.findall(r"(?:src|href)=\"([^\"#][^\"]*)\"", page)), True
+
+
+# Comparisons: sentences
+
+# The names of a table of sentences, in order. With each is its type, and how many values a function has, or whether a text isn't empty.
+NAMES = """(table) => {
+    const named = (what, name) => typeof what === "object"
+        ? Object.entries(what).flatMap(([one, inner]) => named(inner, `${name}.${one}`))
+        : [[name, typeof what, typeof what === "function" ? what.length : what !== ""]];
+    return named(table, "");
+}"""
+
+
+def section(document: str, head: str) -> str:
+    """A section of a document in docs/."""
+    return read(os.path.join(TOP, "docs", document)).decode().split(f"\n## {head}\n")[1].split("\n## ")[0]
+
+
+def sentences(office: Office) -> Comparisons:
+    """Both languages have the same names. docs/OFFICE.md has the sentences of the letter on the examples of docs/RULES.md."""
+    tables = {}
+    for folder in ("shared", "office", "driver"):
+        tables[folder], other = (office.run(f"import('/{folder}/words-{language}.js').then(({{ WORDS }}) => ({NAMES})(WORDS))")
+            for language in ("en", "de"))
+        yield f"the names of the sentences of {folder}", other, tables[folder]
+    for folder in ("office", "driver"):
+        yield f"sentences of {folder} in shared", [one for one in tables[folder] if one in tables["shared"]], []
+    amounts = dict(re.findall(r"^    (B\d+) Art .* amount (\d+)$", section("RULES.md", "Evidence"), re.M))
+    kinds = [f"B{number}" for number in range(1, 11)]
+    yield "the kinds of the examples", sorted(amounts), sorted(kinds)
+    calls = ", ".join(f"WORDS.{kind}({amounts.get(kind)})" for kind in kinds)
+    told = [office.run(f"import('/shared/words-{language}.js').then(({{ WORDS }}) => [{calls}])") for language in ("en", "de")]
+    rows = re.findall(r"^\| (B\d+) \| (.*) \| (.*) \|$", section("OFFICE.md", "A letter to a driver"), re.M)
+    yield "the sentences of docs/OFFICE.md", rows, list(zip(kinds, *told))
+
+
+def languages(office: Office) -> Comparisons:
+    """The page loads the sentences of the language that it shows. Where those of another can't be loaded, it says so."""
+    yield "the sentences that are loaded", office.run("performance.getEntriesByType('resource').map((one) => new URL(one.name).pathname)"
+        ".filter((path) => path.includes('/words-')).sort()"), ["/office/words-en.js", "/shared/words-en.js"]
+    office.site.pages.fail("GET /office/words-de.js", "before", 3)
+    office.speak("de")
+    yield "no connection to the German sentences", (office.notice().split(",")[0], office.run("document.querySelector('#language').value"),
+        office.text("#log-out")), ("The service isn't running", "en", "Log out")
+    office.site.pages.faults.clear()
+    for language, text in [("de", "Abmelden"), ("en", "Log out")]:
+        office.speak(language)
+        yield f"the language {language}", (office.text("#log-out"), office.run("document.documentElement.lang")), (text, language)
 
 
 # Comparisons: signing in, and registering
@@ -1395,7 +1443,8 @@ def budget(office: Office) -> Comparisons:
         office.shown("#title")
         urls = [one["request"]["url"] for one in office.page.events("Network.requestWillBeSent")[before:]]
         files = sorted({url.split("#")[0].split("/", 3)[3] for url in urls if re.search(r"/(office|shared)/", url)})
-        texts = [read(os.path.join(PAGES, f"{name}index.html" if name.endswith("/") else name)) for name in files]
+        # German sentences are longer than English ones.
+        texts = [read(os.path.join(PAGES, f"{name}index.html" if name.endswith("/") else name.replace("-en.", "-de."))) for name in files]
         sizes = sum(map(len, texts)), sum(len(gzip.compress(text, 9)) for text in texts), len(files)
         yield f"{address}: bytes, bytes with gzip, requests: {sizes}", [one <= most for one, most in zip(sizes, BUDGET)], [True] * 3
 
@@ -1426,9 +1475,8 @@ def comparisons(program: str, pictures: str | None = None) -> Comparisons:
         with Browser(os.path.join(folder, "browser"), "en-GB,en", ZONE.key) as driven:
             office = Office(site, driven)
             for part in (
-                signing_in, registering, importing, contradiction, broken_uploads, start_page, months, all_drivers, what_is_left,
-                spring_gap,
-                autumn_gap, withdrawals, letters, inspection, changes, faults, versions, sessions,
+                signing_in, languages, sentences, registering, importing, contradiction, broken_uploads, start_page, months, all_drivers,
+                what_is_left, spring_gap, autumn_gap, withdrawals, letters, inspection, changes, faults, versions, sessions,
             ):
                 yield from part(office)
             yield from looks(office, kept)

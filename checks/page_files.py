@@ -1,10 +1,11 @@
 #!/usr/bin/env python3
 """Compares the page files that `listen` gives with the folder pages/, to the byte, with the fields of their replies; what `listen` replies
-to other methods and near paths, and that `serve` gives no page; the paths in the definition with those of the folder; and the size of each
-page with all that it loads. It looks for what the policy of the pages forbids in their HTML and scripts.
+to other methods and near paths, and that `serve` gives no page; the paths in the definition with those of the folder; the size of each page
+with all that it loads; and that each sentence is used. It looks for what the policy of the pages forbids in their HTML and scripts.
 
 Argument: the program. The last line is 'N passed, M failed'."""
 import gzip
+import itertools
 import os
 import re
 import subprocess
@@ -26,6 +27,19 @@ TYPES = {".html": "text/html", ".css": "text/css", ".js": "text/javascript", "":
 RAW = 160 << 10
 COMPRESSED = 45 << 10
 REQUESTS = 12
+
+LANGUAGES = ("en", "de")
+
+# The names of sentences that aren't in the modules as `say.NAME`: each expression that takes a sentence, with the names that it has.
+TAKEN = {
+    "say[breach.kind]": "B1 B2 B3 B4 B5 B6 B7 B8 B9 B10",
+    "say[one.cause]": "unknown crew",
+    "say[range.activity]": "rest available work drive",
+    'say[AMOUNTS.get(kind) ?? "overBy"]': "late lacking overBy",
+    "say[sentence]": "debt debtLate debtBroken",
+    "say[fault.name]": "badKey changing isDown keepsChanging noConnection noDriver noReply otherReply tooOften unreadable",
+    "say[what]": "broken generations noCard refused sending tooLarge unsure waiting",
+}
 
 # What HTML loads, and what a module imports.
 LOADED = re.compile(r'<(?:link rel="(?:stylesheet|modulepreload)" href|script type="module" src)="([^"]+)"')
@@ -111,16 +125,29 @@ def loaded(path: str, found: dict[str, str], seen: set[str]) -> set[str]:
 
 
 def of_sizes() -> Comparisons:
-    """The size of each page with all that it loads."""
+    """The size of each page with all that it loads, in each language."""
     found = places()
-    for page in ("/office/", "/driver/"):
-        paths = loaded(page, found, set())
-        texts = [text_of(found[path]) for path in paths]
+    for page, language in itertools.product(("office", "driver"), LANGUAGES):
+        sentences = {f"/{folder}/words-{language}.js" for folder in ("shared", page)}
+        texts = [text_of(found[path]) for path in loaded(f"/{page}/", found, set()) | sentences]
         raw, small = sum(map(len, texts)), sum(len(gzip.compress(text, 9)) for text in texts)
-        print(f"{page} loads {len(paths)} files: {raw} bytes, compressed {small}")
-        yield f"{page}: bytes, {raw}", raw <= RAW, True
-        yield f"{page}: compressed, {small}", small <= COMPRESSED, True
-        yield f"{page}: requests, {len(paths)}", len(paths) <= REQUESTS, True
+        name = f"the page {page} in {language}"
+        print(f"{name} loads {len(texts)} files: {raw} bytes, compressed {small}")
+        yield f"{name}: bytes, {raw}", raw <= RAW, True
+        yield f"{name}: compressed, {small}", small <= COMPRESSED, True
+        yield f"{name}: requests, {len(texts)}", len(texts) <= REQUESTS, True
+
+
+def of_sentences() -> Comparisons:
+    """Each sentence is used: its name stands in a module as `say.NAME`, in HTML, or in `TAKEN`."""
+    found = {path: text_of(place).decode() for path, place in places().items() if "/words-" not in path}
+    yield "what takes no sentence", [one for one in TAKEN if not any(one in text for text in found.values())], []
+    taken = {name for names in TAKEN.values() for name in names.split(" ")}
+    for folder in ("shared", "driver", "office"):
+        text = "".join(text for path, text in found.items() if folder == "shared" or path.startswith((f"/{folder}/", "/shared/")))
+        used = {*re.findall(r"\bsay\.(\w+)", text), *re.findall(r'data-text="(\w+)"', text), *taken}
+        names = re.findall(r"^  (\w+):", text_of(f"{folder}/words-en.js").decode(), re.MULTILINE)
+        yield f"the sentences of {folder} that no module uses", [name for name in names if name not in used], []
 
 
 def of_texts() -> Comparisons:
@@ -141,6 +168,7 @@ def comparisons(program: str) -> Comparisons:
     """All comparisons."""
     yield from of_texts()
     yield from of_sizes()
+    yield from of_sentences()
     with tempfile.TemporaryDirectory() as folder:
         archive = os.path.join(folder, "archive.db")
         yield "init", told_by([program, "init", archive]), CREATED

@@ -181,6 +181,8 @@ OTHERS: dict[str, dict[str, str]] = {
         "no gaps": "In diesem Monat fehlt keine Stunde, bis zum Ende dessen, was bekannt ist.",
         "month": "Monat", "not yet": "noch nicht",
         "bad key": "Diesen Schlüssel hat kein Fahrer. Prüfen Sie ihn, oder fragen Sie Ihr Büro.",
+        "no connection": "Es gibt keine Verbindung zum Archiv. Was gespeichert war, ist nicht verloren. Versuchen Sie es später noch "
+                         "einmal, oder fragen Sie Ihr Büro.",
         "known": "Bekannt bis {}. {}Angenommen ist Ruhe von der letzten bekannten Stunde bis zum Beginn. Was seitdem gefahren wurde, ist nicht "
                  "dabei.",
         "stale": "Nur bis {} Tage vor dem Beginn bekannt: nicht verlässlich. ",

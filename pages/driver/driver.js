@@ -1,17 +1,15 @@
 // The driver's page: what is left first, then a month. It asks the archive with the driver's key, and shows the replies. The address after
 // `#` is the month; without one it is the last month that has data.
-import { SENTENCES } from "./sentences.js";
-import { KEY_FORM, Problem, bytes, forget, keep, key, reading, send, watch } from "/shared/ask.js";
-import { $, h, listed } from "/shared/dom.js";
+import { $, KEY_FORM, Problem, bytes, forget, h, keep, key, listed, reading, send, watch } from "/shared/page.js";
 import { breachItem, chart, debtsPart, gapsPart, meters, notExaminedBox, sheetTable, undivided, unseenOf } from "/shared/parts.js";
 import { lengthOf, readAhead, readBreaches, readDebts, readEntries, readFiles, readGaps, readSheet, readSpans, readVersion, readWhy }
   from "/shared/read.js";
-import { LANGUAGES, addWords, both, languageNow, length, monthName, say, speak, utcDay } from "/shared/say.js";
+import { LANGUAGES, both, languageNow, length, monthName, ready, say, speak, utcDay } from "/shared/say.js";
 import { DAY, dateOf, localText, minuteOf, minutesOfLocal, monthOf, monthStep, nextMorning, now, offsetText, rangeOf, textOf, zone }
   from "/shared/time.js";
 
 /** @import { Ahead, Breach, CardFile, Debt, Entry, Range, Sheet, ShownBreach, Span, Stretch } from "/shared/read.js" */
-/** @import { Child } from "/shared/dom.js" */
+/** @import { Child } from "/shared/page.js" */
 /**
  * All that the page shows of a month. `end` is the end of what is held, 0 where nothing is. `ahead` is null where there is no forecast.
  * @typedef {{month: string, sheet: Sheet, spans: Span[], gaps: Range[], stretches: Array<Stretch<Breach>>, why: ShownBreach[],
@@ -358,7 +356,7 @@ function leftTexts({ ahead, end }) {
  */
 function leftPart(month) {
   return h("section", { id: "left", "aria-labelledby": "left-head" },
-    h("h2", { id: "left-head" }, say.leftHead),
+    h("h2", { id: "left-head" }, say.left),
     startField(month.ahead && !month.ahead.not ? month.ahead.start : state.start ?? nextMorning()),
     leftTexts(month));
 }
@@ -393,7 +391,7 @@ function monthField(month) {
     goTo(field.value.trim());
   };
   return h("form", { id: "choose", class: "row", onsubmit: take },
-    h("label", { for: "month" }, say.total), field, h("button", {}, say.show));
+    h("label", { for: "month" }, say.wholeMonth), field, h("button", {}, say.show));
 }
 
 /**
@@ -462,7 +460,7 @@ function entriesPart({ month, entries }) {
   }
   const item = (/** @type {Entry} */ entry) => h("li", {},
     `${both(entry.start)} ${say.to} ${both(entry.past)}: ${say[entry.activity]}, `, h("bdi", {}, entry.author),
-    entry.note ? [", ", h("bdi", {}, entry.note)] : null, entry.state === "withdrawn" ? ` (${say.withdrawn})` : "");
+    entry.note ? [", ", h("bdi", {}, entry.note)] : null, entry.state === "withdrawn" ? ` (${say.isWithdrawn})` : "");
   return h("details", { id: "entries" }, h("summary", {}, say.entered(inMonth.length)), h("ul", {}, inMonth.map(item)));
 }
 
@@ -763,15 +761,23 @@ function unfoldForPrint() {
   }
 }
 
+/** Shows the language that is chosen. */
+async function changeLanguage() {
+  try {
+    await speak($("language").value);
+    render();
+  } catch (fault) {
+    $("language").value = languageNow();
+    tell(sentenceOn(fault));
+  }
+}
+
 /** Begins: with the key of this tab if there is one. */
 async function begin() {
-  addWords(SENTENCES);
+  await ready;
   $("language").append(...LANGUAGES.map(([language, name]) => h("option", { value: language, lang: language }, name)));
   $("language").value = languageNow();
-  $("language").addEventListener("change", () => {
-    speak($("language").value);
-    render();
-  });
+  $("language").addEventListener("change", changeLanguage);
   $("sign-in").addEventListener("submit", signIn);
   $("log-out").addEventListener("click", logOut);
   $("file").addEventListener("change", () => {

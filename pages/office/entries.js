@@ -1,6 +1,6 @@
 // A driver's entries, and their withdrawal.
-import { $, h } from "/shared/dom.js";
-import { addWords, both, length, monthName, say } from "/shared/say.js";
+import { $, h } from "/shared/page.js";
+import { both, length, monthName, say } from "/shared/say.js";
 import { readDrivers, readEntries } from "/shared/read.js";
 import { ask, button, confirmed, head, listTable, notice, thisMonth, tool } from "./office.js";
 import { command, field, isUnsure, refusal } from "./commands.js";
@@ -54,36 +54,3 @@ export async function page({ signal, args: [driver], again }) {
       : [entries.length > 1 ? rangeForm(entries.length, act) : null,
         listTable(columnsOf((number) => act(number, number)), entries.reverse())]];
 }
-
-// The sentences of this page
-
-addWords({
-  en: {
-    entriesHelp: "Hours that were entered by hand. An entry that is withdrawn stays listed, and gives nothing.",
-    noEntries: "There are no entries.",
-    fromTo: "From, to",
-    state: "State",
-    isWithdrawn: "withdrawn",
-    withdraw: "Withdraw",
-    withdrawRange: "Withdraw all of these",
-    firstEntry: "From entry",
-    lastEntry: "To entry",
-    withdrawAsk: (a, b) => (a === b ? `Withdraw entry ${a}? That can't be undone; the hours can be entered again.`
-      : `Withdraw the ${b - a + 1} entries from ${a} to ${b}? That can't be undone; the hours can be entered again.`),
-    unsureWithdrawn: "The connection broke. The list shows what is withdrawn now.",
-  },
-  de: {
-    entriesHelp: "Stunden, die von Hand eingetragen wurden. Ein zurückgezogener Eintrag bleibt in der Liste und gibt nichts.",
-    noEntries: "Es gibt keine Einträge.",
-    fromTo: "Von, bis",
-    state: "Stand",
-    isWithdrawn: "zurückgezogen",
-    withdraw: "Zurückziehen",
-    withdrawRange: "Alle diese zurückziehen",
-    firstEntry: "Von Eintrag",
-    lastEntry: "Bis Eintrag",
-    withdrawAsk: (a, b) => (a === b ? `Eintrag ${a} zurückziehen? Das ist endgültig; die Stunden können neu eingetragen werden.`
-      : `Die ${b - a + 1} Einträge von ${a} bis ${b} zurückziehen? Das ist endgültig; die Stunden können neu eingetragen werden.`),
-    unsureWithdrawn: "Die Verbindung brach ab. Die Liste zeigt, was jetzt zurückgezogen ist.",
-  },
-});

@@ -1,11 +1,10 @@
 // Card files, one after the other. The list outlives the page, so that an office can look at other pages meanwhile.
-import { h } from "/shared/dom.js";
+import { h } from "/shared/page.js";
 import { minuteOf, textOf } from "/shared/time.js";
-import { addWords, both, monthName, say } from "/shared/say.js";
+import { both, monthName, say } from "/shared/say.js";
 import { cardOf, holderOf, readDrivers } from "/shared/read.js";
 import { ask, atLogOut, button, confirmed, head, link, proposed, thisMonth, unfinished } from "./office.js";
 import { codeOf, command, isUnsure } from "./commands.js";
-import { many } from "/shared/words.js";
 
 const MOST = 262_144, NAME = /\.(ddd|c1b|tgd|esm)$/i, FAULTS_IN_A_ROW = 2;
 
@@ -213,53 +212,5 @@ async function clear() {
 export async function page({ signal }) {
   people = readDrivers(await ask("/drivers", signal));
   draw();
-  return [head(say.cardsHead, items.length ? button(say.clearList, clear) : null), dropPlace(), progress, list];
+  return [head(say.cards, items.length ? button(say.clearList, clear) : null), dropPlace(), progress, list];
 }
-
-// The sentences of this page
-
-addWords({
-  en: {
-    cardsHead: "Card files",
-    cardsHelp: "Files of driver cards (.ddd, .c1b, .tgd, .esm), up to 262,144 bytes each. Signatures aren't verified. Keep the files: "
-      + "the archive keeps only those with something new.",
-    stop: "Stop",
-    added: (name, who, k) => `${name}: added to ${who} as file ${k}.`,
-    repeated: (name, who) => `${name}: nothing new for ${who}. Keep the file: the archive doesn't.`,
-    unknownCard: (name, card) => `${name}: the card of a driver who isn't registered${card ? ` (${card})` : ""}. Nothing was taken.`,
-    register: "Register this driver",
-    contradicts: (name, at) => `${name}: contradicts what is held for ${at}. Nothing was taken. Either hours entered by hand are `
-      + `wrong, or two files of the card differ.`,
-    generations: (name) => `${name}: the two generations of this card contradict each other. Nothing was taken.`,
-    tryPart: { first: "Read the first generation alone", second: "Read the second generation alone" },
-    unsure: (name) => `${name}: it isn't known whether it was taken. Send it again: if it was, it has nothing new.`,
-    sending: (name) => `${name}: being sent …`,
-    counted: (added, same, others) => `${added} added, ${same} with nothing new, ${others} not taken`,
-    goOn: "Go on",
-    clearList: "Clear the list",
-    stoppedFiles: (n) => `Stopped: ${many(n, "file waits", "files wait")}.`,
-    noCards: (n) => `${many(n, "other file", "other files")} in the folders: no card files by their names, and not sent.`,
-  },
-  de: {
-    cardsHead: "Kartendateien",
-    cardsHelp: "Dateien von Fahrerkarten (.ddd, .c1b, .tgd, .esm), je höchstens 262.144 Bytes. Signaturen werden nicht geprüft. "
-      + "Behalten Sie die Dateien: das Archiv behält nur, was etwas Neues hat.",
-    stop: "Anhalten",
-    added: (name, who, k) => `${name}: bei ${who} aufgenommen als Datei ${k}.`,
-    repeated: (name, who) => `${name}: nichts Neues für ${who}. Behalten Sie die Datei: das Archiv tut es nicht.`,
-    unknownCard: (name, card) => `${name}: die Karte eines Fahrers, der nicht angemeldet ist${card ? ` (${card})` : ""}. Nichts wurde `
-      + `aufgenommen.`,
-    register: "Diesen Fahrer anmelden",
-    contradicts: (name, at) => `${name}: widerspricht dem, was für ${at} da ist. Nichts wurde aufgenommen. Entweder ist ein Eintrag `
-      + `von Hand falsch, oder zwei Dateien der Karte unterscheiden sich.`,
-    generations: (name) => `${name}: die zwei Generationen der Karte widersprechen sich. Nichts wurde aufgenommen.`,
-    tryPart: { first: "Nur die erste Generation lesen", second: "Nur die zweite Generation lesen" },
-    unsure: (name) => `${name}: unklar, ob sie aufgenommen wurde. Senden Sie sie noch einmal: wenn ja, bringt sie nichts Neues.`,
-    sending: (name) => `${name}: wird gesendet …`,
-    counted: (added, same, others) => `${added} aufgenommen, ${same} ohne Neues, ${others} nicht aufgenommen`,
-    goOn: "Weiter",
-    clearList: "Liste leeren",
-    stoppedFiles: (n) => `Angehalten: ${many(n, "Datei wartet", "Dateien warten")}.`,
-    noCards: (n) => `${many(n, "andere Datei", "andere Dateien")} in den Ordnern: dem Namen nach keine Kartendateien, nicht gesendet.`,
-  },
-});

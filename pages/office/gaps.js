@@ -1,11 +1,10 @@
 // The gaps as a form, in local time. It sends UTC.
-import { h } from "/shared/dom.js";
+import { h } from "/shared/page.js";
 import { DAY, dateOf, localText, minuteOf, minutesOfLocal, textOf } from "/shared/time.js";
-import { addWords, length, localMoment, monthName, say } from "/shared/say.js";
+import { length, localMoment, monthName, say } from "/shared/say.js";
 import { readDrivers, readEntries, readForm } from "/shared/read.js";
 import { ask, busy, button, head, momentField, notice, thisMonth, tool, unfinished } from "./office.js";
 import { command, field, isUnsure, refusal } from "./commands.js";
-import { many } from "/shared/words.js";
 
 const AUTHOR = "tacho.author", AUTHOR_BYTES = 64, NOTE_BYTES = 200, FEW = 60;
 
@@ -186,66 +185,9 @@ export async function page(context) {
   const [person] = readDrivers(await ask(`/drivers/${driver}`, signal));
   const gaps = readForm(await ask(`/drivers/${driver}/form`, signal)),
     entries = readEntries(await ask(`/drivers/${driver}/entries`, signal));
-  const title = head([h("bdi", {}, person.name), `: ${say.gapsHead}`], tool(`/drivers/${driver}/entries`, say.entries),
+  const title = head([h("bdi", {}, person.name), `: ${say.gaps}`], tool(`/drivers/${driver}/entries`, say.entries),
     tool(`/drivers/${driver}/${thisMonth()}`, monthName(thisMonth())));
   if (gaps.length === 0) return [title, h("p", { class: "box good" }, say.noGapsAtAll)];
   const form = new GapForm(driver, gaps.map((gap) => ({ ...gap, activity: "", note: "" })), entries.length, context);
   return [title, h("p", {}, say.gapsHelp), h("p", { class: "note" }, say.workHelp), h("p", { class: "box" }, say.neverIllness), form.node];
 }
-
-// The sentences of this page
-
-addWords({
-  en: {
-    gapsHelp: "Times are local. Write only what a paper says (roster, leave list, printout), and name the paper.",
-    gapsHead: "Unknown hours",
-    save: "Save",
-    split: "Split",
-    skipRow: "leave open",
-    rows: (n) => `${many(n, "row", "rows")} will be saved.`,
-    neverIllness: "A note can't be deleted, and the driver can read it. Never write illness into it: “absent by list 7” is enough.",
-    workHelp: "Driving a car or van, workshop, course, loading: other work. Leave, illness, free time: rest.",
-    splitAt: "Split at (local time)",
-    splitWithin: "Choose a time within these hours.",
-    splitDays: (n) => `Split by days (${n})`,
-    papers: ["roster", "leave list", "printout", "workshop order"],
-    textTooLong: (n) => `At most ${n} bytes.`,
-    textSigns: "No comma, no double quote and no control character.",
-    saving: "Being saved …",
-    looking: "The connection broke. Looking at what is there …",
-    savedEntries: (a, b) => (a === b ? `Saved as entry ${a}.` : `Saved as entries ${a} to ${b}.`),
-    notSaved: "Nothing was saved. Try again.",
-    lookAgain: "Look again",
-    otherEntries: "The connection broke, and other entries were added meanwhile. The form shows what is still unknown; the entries "
-      + "show the rest.",
-    unsureEntries: "It isn't known whether this was saved. Before that is known, nothing can be sent.",
-    noGapsAtAll: "There are no gaps from the base to the end of what is known.",
-  },
-  de: {
-    gapsHelp: "Zeiten sind Ortszeit. Schreiben Sie nur, was ein Papier sagt (Dienstplan, Urlaubsliste, Ausdruck), und nennen Sie das "
-      + "Papier.",
-    gapsHead: "Unbekannte Stunden",
-    save: "Speichern",
-    split: "Teilen",
-    skipRow: "offen lassen",
-    rows: (n) => `${many(n, "Zeile wird", "Zeilen werden")} gespeichert.`,
-    neverIllness: "Eine Notiz kann nicht gelöscht werden, und der Fahrer kann sie lesen. Schreiben Sie nie eine Krankheit hinein: "
-      + "„abwesend nach Liste 7“ genügt.",
-    workHelp: "Auto oder Transporter fahren, Werkstatt, Kurs, Laden: andere Arbeit. Urlaub, Krankheit, Freizeit: Ruhe.",
-    splitAt: "Teilen um (Ortszeit)",
-    splitWithin: "Wählen Sie eine Zeit innerhalb dieser Stunden.",
-    splitDays: (n) => `Nach Tagen teilen (${n})`,
-    papers: ["Dienstplan", "Urlaubsliste", "Ausdruck", "Werkstattauftrag"],
-    textTooLong: (n) => `Höchstens ${n} Bytes.`,
-    textSigns: "Kein Komma, kein Anführungszeichen und kein Steuerzeichen.",
-    saving: "Wird gespeichert …",
-    looking: "Die Verbindung brach ab. Es wird nachgesehen, was da ist …",
-    savedEntries: (a, b) => (a === b ? `Gespeichert als Eintrag ${a}.` : `Gespeichert als Einträge ${a} bis ${b}.`),
-    notSaved: "Nichts wurde gespeichert. Versuchen Sie es noch einmal.",
-    lookAgain: "Noch einmal nachsehen",
-    otherEntries: "Die Verbindung brach ab, und inzwischen kamen andere Einträge hinzu. Das Formular zeigt, was noch unbekannt ist; "
-      + "die Einträge zeigen das Übrige.",
-    unsureEntries: "Es ist nicht bekannt, ob das gespeichert wurde. Bevor das bekannt ist, kann nichts gesendet werden.",
-    noGapsAtAll: "Vom Beginn der Prüfung bis zum Ende dessen, was bekannt ist, gibt es keine Lücken.",
-  },
-});

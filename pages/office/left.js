@@ -1,7 +1,7 @@
 // What is left until the limits, for all drivers and for one. Each loads what the other doesn't need.
-import { h } from "/shared/dom.js";
+import { h } from "/shared/page.js";
 import { DAY, textOf, tomorrow } from "/shared/time.js";
-import { addWords, both, length, localMoment, monthName, say, shortUtcDay } from "/shared/say.js";
+import { both, length, localMoment, monthName, say, shortUtcDay } from "/shared/say.js";
 import { leftOf, readAhead, readDebts, readDrivers } from "/shared/read.js";
 import { ask, atLogOut, head, link, listTable, momentField, printButton, thisMonth, tool, zoneLine } from "./office.js";
 
@@ -91,7 +91,7 @@ const untold = (rows) => (rows.length === 0 ? null : [h("h2", {}, say.leftUntold
 async function leftAll({ signal, again }) {
   const { readForecast } = await import("/shared/tables.js");
   const rows = readForecast(await ask(`/forecast/${textOf(startOfDriving()).replace(" ", "/")}`, signal)), told = rows.filter(isTold);
-  return [head(`${say.leftHead}: ${localMoment(startOfDriving(), true)}`, printButton()), startForm(again),
+  return [head(`${say.left}: ${localMoment(startOfDriving(), true)}`, printButton()), startForm(again),
     h("p", { class: "box" }, say.leftAssume),
     told.length ? listTable(columns(), told) : null, untold(rows.filter((row) => !isTold(row))),
     h("p", { class: "note" }, `– : ${say.notBinding}.`), zoneLine()];
@@ -126,7 +126,7 @@ async function leftOne({ signal, args: [driver], again }) {
   const ahead = readAhead(await ask(`/drivers/${driver}/ahead/${textOf(startOfDriving()).replace(" ", "/")}`, signal)),
     [person] = readDrivers(await ask(`/drivers/${driver}`, signal));
   const debts = readDebts(await ask(`/drivers/${driver}/debts`, signal));
-  const title = head([h("bdi", {}, person.name), `: ${say.leftHead}`], tool(`/drivers/${driver}/${thisMonth()}`, monthName(thisMonth())),
+  const title = head([h("bdi", {}, person.name), `: ${say.left}`], tool(`/drivers/${driver}/${thisMonth()}`, monthName(thisMonth())),
     printButton());
   const held = isNever(ahead) ? "" : ` · ${say.colHeld} ${both(ahead.held)}`;
   return [title, startForm(again), h("p", {}, h("b", {}, `${say.startAt}: ${both(ahead.start)}`), held), toldOf(ahead, meters),
@@ -135,30 +135,3 @@ async function leftOne({ signal, args: [driver], again }) {
 
 /** @type {(context: import("./office.js").Context) => Promise<import("./office.js").Content>} */
 export const page = (context) => (context.args.length ? leftOne(context) : leftAll(context));
-
-// The sentences of these pages
-
-addWords({
-  en: {
-    coming: "This comes even if nothing is driven:",
-    youngHelp: (d) => `What was driven before ${d} isn't known, so nothing is said of two weeks.`,
-    leftCrew: "Nothing can be said: a second driver is recorded at the end of what is known.",
-    young: (d) => `known from ${d}`,
-    binds: { day: "", week: "week", two: "two weeks" },
-    leftCols: ["Driver", "Known to", "Driving that day", "First break after", "Daily rest begins by", "Left in the week",
-      "Left in two weeks", "Weekly rest begins by", "Used: short rests, long days"],
-    notBinding: "isn't reached this week",
-    leftUntold: "Nothing can be said of these drivers",
-  },
-  de: {
-    coming: "Das kommt, auch wenn nicht gefahren wird:",
-    youngHelp: (d) => `Was vor ${d} gefahren wurde, ist nicht bekannt; deshalb steht hier nichts von zwei Wochen.`,
-    leftCrew: "Nichts ist zu sagen: Am Ende dessen, was bekannt ist, steht ein zweiter Fahrer.",
-    young: (d) => `bekannt ab ${d}`,
-    binds: { day: "", week: "Woche", two: "zwei Wochen" },
-    leftCols: ["Fahrer", "Bekannt bis", "Lenken an diesem Tag", "Erste Unterbrechung nach", "Tägliche Ruhe beginnt bis",
-      "Noch in der Woche", "Noch in zwei Wochen", "Wochenruhe beginnt bis", "Verbraucht: kurze Ruhen, lange Tage"],
-    notBinding: "wird diese Woche nicht erreicht",
-    leftUntold: "Von diesen Fahrern ist nichts zu sagen",
-  },
-});

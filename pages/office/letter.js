@@ -1,11 +1,10 @@
 // A letter to a driver about the breaches of a month, in UTC with local time.
-import { h } from "/shared/dom.js";
+import { h } from "/shared/page.js";
 import { DAY, now, rangeOf } from "/shared/time.js";
-import { addWords, formal, languageNow, localMoment, monthName, say, withLanguage } from "/shared/say.js";
+import { formal, languageNow, localMoment, monthName, say, withLanguage } from "/shared/say.js";
 import { cardOf, readDrivers, readEntries, readFiles, readVersion, readWhy } from "/shared/read.js";
 import { breachItem, isUnfinished } from "/shared/parts.js";
 import { ask, button, head, languageField, tool } from "./office.js";
-import { many } from "/shared/words.js";
 
 const SENDER = "tacho.sender", LANGUAGE = "tacho.letter.", DAYS_TO_ANSWER = 14, DIGITS = 12, ANSWER_LINES = 3;
 
@@ -68,60 +67,8 @@ export async function page({ signal, args: [driver, month], again }) {
     ready.length < all.length ? h("div", { class: "box warn", id: "left-out" }, h("p", {}, say.letterOpen(all.length - ready.length)))
       : null,
     h("p", { class: "note" }, `${say.from}: ${say.senderHelp}`)),
-  withLanguage(language, () => sheetOf({
+  await withLanguage(language, () => sheetOf({
     person, ready, month, language, program, files: files.filter(isWithin),
       entries: entries.filter((one) => one.state === "kept" && isWithin(one)),
   }))];
 }
-
-// The sentences of this page
-
-addWords({
-  en: {
-    letterHead: (month) => `Your driving and rest times in ${month}`,
-    dear: (name) => `Dear ${name},`,
-    letterIntro: (n, month) => `we have checked the hours that your driver card recorded in ${month} against Regulation (EC) No `
-      + `561/2006. ${n === 1 ? "One point needs" : `${n} points need`} your attention:`,
-    letterAsk: "Is anything wrong here, or missing? Then please tell us, and bring your printout or note of that day. Otherwise please "
-      + "tell us how it came about. Please answer by",
-    letterInstruct: "We instruct you to keep to these limits. If a journey can't be done within them, tell us before you exceed one.",
-    letterNone: "There is no finished breach to write about in this month.",
-    letterOpen: (n) => `${many(n, "breach is", "breaches are")} left out: what shows ${n === 1 ? "it isn't" : "them isn't"} complete `
-      + `yet. Import the next card file first.`,
-    letterHand: "Entered by hand in this month, and not from the card:",
-    letterFiles: (files, program) =>
-      `Source: card files ${files}. Examined with ${program}. Times in UTC as on the card, local time in brackets.`,
-    answer: "Driver's answer",
-    signed: "Place, date, signature",
-    forOffice: "For the company",
-    forDriver: "Driver: read and answered",
-    date2: "Date",
-    cardNo: "Driver card",
-    letterLanguage: "Language of the letter",
-    senderHelp: "Kept in this browser only.",
-  },
-  de: {
-    letterHead: (month) => `Ihre Lenk- und Ruhezeiten im ${month}`,
-    dear: (name) => `Guten Tag ${name},`,
-    letterIntro: (n, month) => `wir haben die Stunden, die Ihre Fahrerkarte im ${month} aufgezeichnet hat, nach der Verordnung (EG) `
-      + `Nr. 561/2006 geprüft. ${n === 1 ? "Zu einem Punkt" : `Zu ${n} Punkten`} bitten wir Sie um Antwort:`,
-    letterAsk: "Ist hier etwas falsch, oder fehlt etwas? Dann sagen Sie es uns bitte, und bringen Sie Ihren Ausdruck oder Ihre Notiz "
-      + "von diesem Tag mit. Sonst sagen Sie uns bitte, wie es dazu kam. Bitte antworten Sie bis",
-    letterInstruct: "Wir weisen Sie an, diese Grenzen einzuhalten. Ist eine Fahrt innerhalb der Grenzen nicht zu schaffen, sagen Sie "
-      + "es uns, bevor Sie eine überschreiten.",
-    letterNone: "In diesem Monat gibt es keinen abgeschlossenen Verstoß, über den zu schreiben wäre.",
-    letterOpen: (n) => `${n === 1 ? "Ein Verstoß ist" : `${n} Verstöße sind`} ausgelassen: der Beleg ist noch nicht vollständig. Lesen `
-      + `Sie zuerst die nächste Kartendatei ein.`,
-    letterHand: "In diesem Monat von Hand eingetragen und nicht von der Karte:",
-    letterFiles: (files, program) =>
-      `Quelle: Kartendateien ${files}. Geprüft mit ${program}. Zeiten in UTC wie auf der Karte, Ortszeit in Klammern.`,
-    answer: "Antwort des Fahrers",
-    signed: "Ort, Datum, Unterschrift",
-    forOffice: "Für das Unternehmen",
-    forDriver: "Fahrer: gelesen und beantwortet",
-    date2: "Datum",
-    cardNo: "Fahrerkarte",
-    letterLanguage: "Sprache des Briefs",
-    senderHelp: "Bleibt nur in diesem Browser.",
-  },
-});

@@ -1,12 +1,10 @@
 // A driver's month.
-import { h } from "/shared/dom.js";
-import { Problem } from "/shared/ask.js";
+import { Problem, h } from "/shared/page.js";
 import { monthStep, now, offsetText, rangeOf, zone } from "/shared/time.js";
-import { addWords, monthName, say } from "/shared/say.js";
+import { monthName, say } from "/shared/say.js";
 import { readBreaches, readDebts, readEntries, readFiles, readGaps, readSheet, readSpans, readWhy } from "/shared/read.js";
 import { breachItem, chart, debtsPart, gapsPart, notExaminedBox, sheetTable, unseenOf } from "/shared/parts.js";
 import { ask, head, link, printButton, tool } from "./office.js";
-import { many } from "/shared/words.js";
 
 const TURNS = 3, DRIVE = 3;
 
@@ -80,16 +78,3 @@ export async function page({ signal, args: [driver, month, day] }) {
       h("div", {}, h("h2", {}, say.sheet), sheetTable({ days, later, total: sheet.total }))),
     h("p", { class: "note" }, say.zoneNote(zone(), offsetText(range[0])))];
 }
-
-// The sentences of this page
-
-addWords({
-  en: {
-    source: "Source",
-    entriesOf: (n) => many(n, "entry by hand", "entries by hand"),
-  },
-  de: {
-    source: "Quelle",
-    entriesOf: (n) => many(n, "Eintrag von Hand", "Einträge von Hand"),
-  },
-});

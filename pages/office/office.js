@@ -1,12 +1,11 @@
 // The frame of the office's pages: the key, the address after #, which names the page, and what several pages use. Each page is a module
 // that is loaded when it is first opened.
-import { $, h, listed } from "/shared/dom.js";
-import { KEY_FORM, Problem, forget, keep, key, reading } from "/shared/ask.js";
+import { $, KEY_FORM, MODULE, Problem, forget, h, keep, key, listed, moduleAt, reading } from "/shared/page.js";
 import { localText, minutesOfLocal, monthOf, now, offsetText, textOf, zone } from "/shared/time.js";
 import { readVersion } from "/shared/read.js";
-import { addWords, LANGUAGES, languageNow, say, speak } from "/shared/say.js";
+import { LANGUAGES, languageNow, ready, say, speak } from "/shared/say.js";
 
-/** @typedef {import("/shared/dom.js").Child} Content */
+/** @typedef {import("/shared/page.js").Child} Content */
 /** @typedef {{ signal: AbortSignal, args: string[], again: (notice?: Node) => void }} Context what a page gets: a signal that ends its
  *  requests, the parts of its address, and how to show it anew */
 /** @typedef {{ head: string, cell: (row: any) => Content, kind?: string, kindOf?: (row: any) => string }} Column a column of a list */
@@ -198,12 +197,12 @@ function showFrame(to) {
   $("nav").setAttribute("aria-label", say.nav);
   showFoot();
   const isIn = key() !== null;
-  const places = [["/", say.start], ["/files", say.cards], ["/left", say.left], [`/month/${thisMonth()}`, say.monthAll],
+  const places = [["/", say.start], ["/files", say.cards], ["/left", say.left], [`/month/${thisMonth()}`, say.wholeMonth],
     ["/people", say.people], ["/inspection", say.inspection]];
   const isAt = (where) => (where === "/" ? to === "/" : to.startsWith(where.startsWith("/month") ? "/month" : where));
   $("nav").replaceChildren(...(isIn ? places.map(([where, text]) => link(where, text, { "aria-current": isAt(where) ? "page" : null }))
     : []));
-  const change = (language) => { speak(language); render(); };
+  const change = (language) => busy(speak(language)).then(() => render(), (fault) => render(notice("bad", sentenceOf(fault))));
   const select = languageField(languageNow(), change, { id: "language", class: "small", "aria-label": say.language });
   $("tools").replaceChildren(select, ...(isIn ? [button(say.logOut, leave, { class: "small", id: "log-out" })] : []));
 }
@@ -227,22 +226,12 @@ async function compareVersion(signal) {
 /** @type {Set<string>} the modules that were loaded */
 const loaded = new Set();
 
-const MODULE = "module"; // of a problem: what couldn't be loaded
-/** @type {(name: string) => Promise<any>} the module of a page */
-async function moduleOf(name) {
-  try {
-    return await import(`./${name}.js`);
-  } catch (fault) {
-    throw fault instanceof TypeError ? new Problem("noConnection", MODULE) : fault;
-  }
-}
-
 /** The content of the page at an address.
  * @type {(to: string, signal: AbortSignal, again: (notice?: Node) => void) => Promise<Content>} */
 async function contentOf(to, signal, again) {
   const found = PAGES.find(([one]) => one.test(to));
   if (!found) return [head(say.noPage), h("p", {}, link("/", say.start))];
-  const module = await moduleOf(found[1]);
+  const module = await moduleAt(`/office/${found[1]}.js`);
   return module.page({ signal, args: found[0].exec(to).slice(1), again });
 }
 
@@ -336,76 +325,6 @@ async function leave() {
   logOut(notice("good", say.loggedOut));
 }
 
-// The sentences of the frame, and of several pages
-
-addWords({
-  en: {
-    office: "Tachograph office",
-    nav: "Pages",
-    cards: "Card files",
-    people: "Manage drivers",
-    inspection: "Inspection",
-    logOut: "Log out",
-    skip: "To the content",
-    keyLabel: "Office key",
-    keyHelp: "It stays in this tab until you log out or close the tab. Don't let the browser save it on a shared computer.",
-    signIn: "Sign in",
-    print: "Print",
-    colDriver: "Driver",
-    letter: "Letter",
-    gapForm: "Fill in gaps",
-    look: "Look at that day",
-    monthAll: "Month",
-    noPage: "There is no such page.",
-    keepIt: "Cancel",
-    askAgain: (n) => `Too many requests at once. The page waits ${n} s, and asks again by itself.`,
-    noReply: "No reply came in time. Nothing that was saved is lost. Try again.",
-    changing: "The archive changed while this page was read. Try again.",
-    pageFault: "This page has a fault. Nothing was changed.",
-    idle: "You are logged out: for half an hour no key was pressed and nothing was clicked.",
-    leaveUnfinished: "Files wait to be sent, or hours to be saved. They would be left out.",
-    otherVersion: "The program is of another version now.",
-    noSuchTime: "This local time doesn't exist: the clock was put forward.",
-    whichTime: (time) => `${time} comes twice in this night. Which is meant?`,
-    nthTime: (k) => (k === 0 ? "the first" : "the second"),
-    twoUnknown: "two weeks: ?",
-    noDriversYet: "No driver is registered yet.",
-  },
-  de: {
-    office: "Tacho-Büro",
-    nav: "Seiten",
-    cards: "Kartendateien",
-    people: "Fahrer verwalten",
-    inspection: "Kontrolle",
-    logOut: "Abmelden",
-    skip: "Zum Inhalt",
-    keyLabel: "Büroschlüssel",
-    keyHelp: "Er bleibt in diesem Tab, bis Sie sich abmelden oder den Tab schließen. Speichern Sie ihn an einem gemeinsamen Rechner "
-      + "nicht im Browser.",
-    signIn: "Anmelden",
-    print: "Drucken",
-    colDriver: "Fahrer",
-    letter: "Brief",
-    gapForm: "Lücken ausfüllen",
-    look: "Diesen Tag ansehen",
-    monthAll: "Monat",
-    noPage: "Diese Seite gibt es nicht.",
-    keepIt: "Abbrechen",
-    askAgain: (n) => `Zu viele Anfragen auf einmal. Die Seite wartet ${n} s und fragt dann selbst noch einmal.`,
-    noReply: "Es kam keine Antwort in der Zeit. Was gespeichert war, ist nicht verloren. Versuchen Sie es noch einmal.",
-    changing: "Das Archiv hat sich geändert, während diese Seite gelesen wurde. Versuchen Sie es noch einmal.",
-    pageFault: "Diese Seite hat einen Fehler. Nichts wurde geändert.",
-    idle: "Sie sind abgemeldet: Eine halbe Stunde lang wurde keine Taste gedrückt und nichts angeklickt.",
-    leaveUnfinished: "Dateien warten auf das Senden oder Stunden auf das Speichern. Sie würden ausgelassen.",
-    otherVersion: "Das Programm hat jetzt eine andere Version.",
-    noSuchTime: "Diese Ortszeit gibt es nicht: Die Uhr wurde vorgestellt.",
-    whichTime: (time) => `${time} kommt in dieser Nacht zweimal vor. Welches ist gemeint?`,
-    nthTime: (k) => (k === 0 ? "das erste" : "das zweite"),
-    twoUnknown: "zwei Wochen: ?",
-    noDriversYet: "Noch ist kein Fahrer angemeldet.",
-  },
-});
-
 let active = Date.now();
 const stay = () => { active = Date.now(); };
 /** @type {() => void} logs out after half an hour without a key press or a click */
@@ -418,5 +337,7 @@ document.addEventListener("visibilitychange", leaveIfIdle);
 addEventListener("pageshow", (event) => { if (event.persisted && key() !== null) logOut(notice("good", say.loggedOut)); });
 addEventListener("beforeunload", (event) => { if (unfinished.size > 0) event.preventDefault(); });
 $("skip").addEventListener("click", (event) => { event.preventDefault(); $("content").focus(); });
-addEventListener("hashchange", () => render());
-render();
+ready.then(() => {
+  addEventListener("hashchange", () => render());
+  render();
+});

@@ -1,7 +1,7 @@
 // A month of all drivers: what each did, how much of it was examined, and each breach.
-import { h } from "/shared/dom.js";
+import { h } from "/shared/page.js";
 import { DAY, monthStep, now, rangeOf } from "/shared/time.js";
-import { addWords, amountText, both, hm, length, monthName, say } from "/shared/say.js";
+import { amountText, both, hm, length, monthName, say } from "/shared/say.js";
 import { readIncidents, readOverview } from "/shared/tables.js";
 import { ask, head, link, listTable, printButton, tool, zoneLine } from "./office.js";
 
@@ -65,26 +65,9 @@ export async function page({ signal, args: [month] }) {
   return [head(say.monthAllHead(monthName(month)), tool(`/month/${monthStep(month, -1)}`, "←", say.monthBefore),
     tool(`/month/${monthStep(month, 1)}`, "→", say.monthAfter), printButton()),
     rows.length === 0 ? h("p", { class: "box" }, say.noDriversYet)
-      : [monthTable(columnsOf(month, total), rows, { ...total, driver: null, name: say.total }),
+      : [monthTable(columnsOf(month, total), rows, { ...total, driver: null, name: say.wholeMonth }),
         h("p", { class: "note" }, say.unseenHelp(length(passed))),
         h("p", { class: "note" }, RULES.filter((rule) => total[rule]).map((rule) => `${rule}: ${say.short[rule]}`).join(" · "))],
     h("h2", {}, `${say.breaches}${incidents.length ? `: ${incidents.length}` : ""}`), breachesOf(incidents, month),
     incidents.length ? h("p", { class: "note" }, say.noLooks) : null, zoneLine()];
 }
-
-// The sentences of this page
-
-addWords({
-  en: {
-    monthAllHead: (month) => `All drivers in ${month}`,
-    extent: "Extent",
-    unseenHelp: (all) => `“Not examined” counts the minutes of the month that have passed (${all} a driver) and weren't examined. `
-      + `Where nothing is examined no breach is shown.`,
-  },
-  de: {
-    monthAllHead: (month) => `Alle Fahrer im ${month}`,
-    extent: "Ausmaß",
-    unseenHelp: (all) => `„Nicht geprüft“ zählt die Minuten des Monats, die vergangen (${all} je Fahrer) und nicht geprüft sind. Wo `
-      + `nichts geprüft ist, wird kein Verstoß gezeigt.`,
-  },
-});

@@ -1,12 +1,10 @@
 // The drivers: one or many are added, and a key, base or name is changed. A key is made here, at random, and shown once.
-import { $, h } from "/shared/dom.js";
-import { key } from "/shared/ask.js";
+import { $, h, key } from "/shared/page.js";
 import { DAY, dateOf, minuteOf, now, weekdayOf } from "/shared/time.js";
-import { addWords, say, utcDay } from "/shared/say.js";
+import { say, utcDay } from "/shared/say.js";
 import { cardOf, holderOf, readDrivers } from "/shared/read.js";
 import { ask, atLogOut, button, confirmed, head, link, listTable, notice, proposed } from "./office.js";
 import { command, field, isUnsure, refusal } from "./commands.js";
-import { many } from "/shared/words.js";
 
 const LETTERS = "abcdefghijkmnopqrstuvwxyzABCDEFGHJKLMNPQRSTUVWXYZ23456789", KEY_LENGTH = 32, BYTES = 256;
 const PLACE = "tacho.driverspage", FIRST_DAY = "2000-01-03", DAYS_BEFORE = 56, HEAD = ["driver", "holder", "key", "base", "name"];
@@ -230,85 +228,10 @@ const columnsOf = (again) => [
 export async function page({ signal, again }) {
   const people = readDrivers(await ask("/drivers", signal));
   const isOpen = proposed.person !== null || people.length === 0;
-  return [head(say.peopleHead), slipsPart(again),
+  return [head(say.people), slipsPart(again),
     slips.length && !proposed.person ? h("p", { class: "no-print" }, link("/files", say.toCards)) : null,
     h("details", { class: "no-print panel", open: isOpen }, h("summary", {}, say.addDriver), addForm(people, again),
       h("p", { class: "note" }, `${say.base}: ${say.baseHelp}`)),
     h("details", { class: "no-print panel", open: manyResults.length > 0 }, h("summary", {}, say.addMany), manyForm(again)),
     people.length ? h("div", { class: "no-print" }, listTable(columnsOf(again), people)) : null];
 }
-
-// The sentences of this page
-
-addWords({
-  en: {
-    peopleHead: "Manage drivers",
-    card: "Card",
-    newKey: "New key",
-    setBase: "Change",
-    addDriver: "Add a driver",
-    fullName: "Name",
-    fromFile: "Take card and name from a card file",
-    baseHelp: "A Monday. A later one hides what was before it; the hours stay.",
-    keySlip: "Key slip",
-    slipHead: "Your hours on the web",
-    slipText: "Type this key at",
-    slipCare: "Keep it to yourself: whoever has it can read your hours. If somebody else knows it, tell the office, which makes a new "
-      + "one; this one then opens nothing.",
-    keyOnce: "Shown once. Print it, and give it to the driver in person.",
-    unsureDone: "It isn't known whether this was done. Look at the list, and do it again if it wasn't.",
-    cardForm: "30 hexadecimal digits, as in a card file",
-    setName: "Set name",
-    setBaseTo: "Set Monday",
-    nameDone: (name) => `The name is ${name} now.`,
-    baseDone: (name, day) => `${name} is examined from ${day} on.`,
-    newKeyAsk: (name) => `A new key for ${name}? The present key will open nothing from then on.`,
-    newKeyDone: (name) => `${name} has a new key. Print the slip.`,
-    addedDriver: (name, number) => `${name} is registered as driver ${number}. Print the slip with the key.`,
-    slipWhere: "Address of the drivers' page",
-    slipsDone: "The slips are printed",
-    slipsDoneAsk: "The keys won't be shown again.",
-    toCards: "Back to the card files",
-    addMany: "Add many drivers",
-    manyHelp: "A CSV file with a row for each driver under this head; each driver gets a new key:",
-    manyFile: "CSV file",
-    csvHead: (head) => `The first line has to be ${head}, with or without key.`,
-    addedMany: (n, all) => `${n} of ${many(all, "driver", "drivers")} registered. Print the slips.`,
-    isAdded: "registered",
-  },
-  de: {
-    peopleHead: "Fahrer verwalten",
-    card: "Karte",
-    newKey: "Neuer Schlüssel",
-    setBase: "Ändern",
-    addDriver: "Fahrer hinzufügen",
-    fullName: "Name",
-    fromFile: "Karte und Name aus einer Kartendatei",
-    baseHelp: "Ein Montag. Ein späterer verbirgt, was davor war; die Stunden bleiben.",
-    keySlip: "Schlüsselzettel",
-    slipHead: "Ihre Stunden im Netz",
-    slipText: "Geben Sie diesen Schlüssel ein bei",
-    slipCare: "Behalten Sie ihn für sich: wer ihn hat, kann Ihre Stunden lesen. Kennt ihn noch jemand, sagen Sie es dem Büro; es macht "
-      + "einen neuen, und dieser öffnet dann nichts mehr.",
-    keyOnce: "Wird einmal gezeigt. Drucken Sie ihn, und geben Sie ihn dem Fahrer selbst.",
-    unsureDone: "Es ist nicht bekannt, ob das geschehen ist. Sehen Sie in der Liste nach, und tun Sie es sonst noch einmal.",
-    cardForm: "30 hexadezimale Ziffern, wie in einer Kartendatei",
-    setName: "Name setzen",
-    setBaseTo: "Montag setzen",
-    nameDone: (name) => `Der Name ist jetzt ${name}.`,
-    baseDone: (name, day) => `${name} wird ab ${day} geprüft.`,
-    newKeyAsk: (name) => `Ein neuer Schlüssel für ${name}? Der jetzige öffnet dann nichts mehr.`,
-    newKeyDone: (name) => `${name} hat einen neuen Schlüssel. Drucken Sie den Zettel.`,
-    addedDriver: (name, number) => `${name} ist als Fahrer ${number} angemeldet. Drucken Sie den Zettel mit dem Schlüssel.`,
-    slipWhere: "Adresse der Fahrerseite",
-    slipsDone: "Die Zettel sind gedruckt",
-    slipsDoneAsk: "Die Schlüssel werden nicht noch einmal gezeigt.",
-    toCards: "Zurück zu den Kartendateien",
-    addMany: "Viele Fahrer hinzufügen",
-    manyHelp: "Eine CSV-Datei mit einer Zeile je Fahrer unter diesem Kopf; jeder Fahrer bekommt einen neuen Schlüssel:",
-    manyFile: "CSV-Datei",
-    csvHead: (head) => `Die erste Zeile muss ${head} sein, mit oder ohne key.`,
-    addedMany: (n, all) => `${n} von ${many(all, "Fahrer", "Fahrern")} angemeldet. Drucken Sie die Zettel.`,
-    isAdded: "angemeldet",
-  },
-});

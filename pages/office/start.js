@@ -1,11 +1,10 @@
 // The start page: all drivers, most urgent first. What is left comes later, into cells that are there already.
-import { h } from "/shared/dom.js";
+import { h } from "/shared/page.js";
 import { DAY, localText, monthStep, now, textOf, tomorrow } from "/shared/time.js";
-import { addWords, daysSince, length, localMoment, localTime, monthName, say } from "/shared/say.js";
+import { daysSince, length, localMoment, localTime, monthName, say } from "/shared/say.js";
 import { readForecast, readStanding } from "/shared/tables.js";
 import { leftOf } from "/shared/read.js";
 import { ask, button, head, link, listRow, listTable, printButton, thisMonth, zoneLine } from "./office.js";
-import { many } from "/shared/words.js";
 
 const OVERDUE = 28, SOON = 21, GONE = 56, FEW_DAYS = 10, STALE = 4;
 
@@ -76,7 +75,7 @@ function columnsOf(leftCells) {
     { head: say.colFirst, kind: "first", cell: (row) => link(row.task.to, h("span", {}, row.task.text),
       { class: `todo ${row.task.level}` }) },
     { head: say.colHeld, kind: "when", kindOf: (row) => (row.held === null ? "quiet" : ""), cell: heldCell },
-    { head: say.colGaps, kind: "num", kindOf: dimIf((row) => row.unknown === 0),
+    { head: say.gaps, kind: "num", kindOf: dimIf((row) => row.unknown === 0),
       cell: (row) => withMore(row.unknown > 0, () => length(row.unknown), () => say.inPlaces(row.gaps)) },
     breachesOf("last_month", before), breachesOf("breaches", month),
     { head: say.colDebts, kind: "num", kindOf: dimIf((row) => row.debts === 0),
@@ -151,68 +150,3 @@ export async function page({ signal, again }) {
     : [filters.node, table, count],
   goneList(standing.filter(mayHaveLeft)), zoneLine()];
 }
-
-// The sentences of this page
-
-addWords({
-  en: {
-    startHead: (when) => `Drivers on ${when}`,
-    sumDownload: "card files due",
-    sumGaps: "with unknown hours",
-    sumBreaches: (month) => `with breaches in ${month.split(" ")[0]}`,
-    sumDebts: "with rest to make up",
-    sumFine: "with nothing to do",
-    all: "drivers",
-    colFirst: "First to do",
-    colGaps: "Unknown hours",
-    colBreaches: (month) => `Breaches in ${month}`,
-    colDebts: "Rest to make up",
-    colLeft: "Driving left tomorrow",
-    ago: (n) => (n === 0 ? "today" : n === 1 ? "yesterday" : `${n} days ago`),
-    doNever: "Import the first card file",
-    doLate: (n) => `Card file ${many(n - 28, "day", "days")} overdue`,
-    doSoon: (n) => `Card file due in ${many(n, "day", "days")}`,
-    doGaps: (n) => `Fill in ${n} unknown`,
-    doDebt: (by) => `Rest to be made up before ${by}`,
-    doBreaches: (n) => `Look at ${many(n, "breach", "breaches")}`,
-    doNothing: "Nothing to do",
-    before: "before",
-    inPlaces: (n) => many(n, "gap", "gaps"),
-    showing: (n, all) => `${n} of ${all} drivers`,
-    asOf: (when) => `As of ${when}`,
-    doNone: "Import a newer card file",
-    doBreachesIn: (n, month) => `Look at ${many(n, "breach", "breaches")} in ${month}`,
-    gone: (n, days) => `${many(n, "driver", "drivers")} without a known hour for ${days} days`,
-    goneWhy: "The archive doesn't record that a driver has left. Whoever drives again needs a new card file.",
-  },
-  de: {
-    startHead: (when) => `Fahrer am ${when}`,
-    sumDownload: "Dateien fällig",
-    sumGaps: "mit unbekannten Stunden",
-    sumBreaches: (month) => `mit Verstößen im ${month.split(" ")[0]}`,
-    sumDebts: "mit auszugleichender Ruhezeit",
-    sumFine: "ohne Aufgabe",
-    all: "Fahrer",
-    colFirst: "Zuerst zu tun",
-    colGaps: "Unbekannte Stunden",
-    colBreaches: (month) => `Verstöße im ${month}`,
-    colDebts: "Auszugleichen",
-    colLeft: "Morgen noch Lenkzeit",
-    ago: (n) => (n === 0 ? "heute" : n === 1 ? "gestern" : `vor ${n} Tagen`),
-    doNever: "Erste Kartendatei einlesen",
-    doLate: (n) => `Kartendatei ${many(n - 28, "Tag", "Tage")} überfällig`,
-    doSoon: (n) => `Kartendatei fällig in ${many(n, "Tag", "Tagen")}`,
-    doGaps: (n) => `${n} klären: was war?`,
-    doDebt: (by) => `Ruhezeit auszugleichen vor ${by}`,
-    doBreaches: (n) => `${many(n, "Verstoß", "Verstöße")} ansehen`,
-    doNothing: "Nichts zu tun",
-    before: "vor",
-    inPlaces: (n) => many(n, "Lücke", "Lücken"),
-    showing: (n, all) => `${n} von ${all} Fahrern`,
-    asOf: (when) => `Stand ${when}`,
-    doNone: "Neuere Kartendatei einlesen",
-    doBreachesIn: (n, month) => `${many(n, "Verstoß", "Verstöße")} im ${month} ansehen`,
-    gone: (n, days) => `${many(n, "Fahrer", "Fahrer")} ohne bekannte Stunde seit ${days} Tagen`,
-    goneWhy: "Das Archiv hält nicht fest, dass ein Fahrer ausgeschieden ist. Wer wieder fährt, braucht eine neue Kartendatei.",
-  },
-});

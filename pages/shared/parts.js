@@ -1,5 +1,5 @@
 // Parts that both pages show: breaches with their evidence, the chart, the sheet, debts, gaps, what isn't examined, and what is left.
-import { h, svg } from "./dom.js";
+import { h, svg } from "./page.js";
 import { ARTICLES, leftOf } from "./read.js";
 import { amountText, both, bothTimes, formal, hm, length, localMoment, localTime, say, shortFormal, shortUtcDay, utcDay, utcTime }
   from "./say.js";
@@ -48,7 +48,7 @@ function remarksOf(line) {
  * A moment in a line of evidence.
  * @param {number | null | undefined} minute null where it isn't known, undefined where there is none
  * @param {boolean} isFormal
- * @returns {import("./dom.js").Child[]}
+ * @returns {import("./page.js").Child[]}
  */
 function momentCell(minute, isFormal) {
   if (minute === undefined) {
@@ -194,7 +194,7 @@ export function unseenOf(stretches, [first, past]) {
  * Why a range isn't examined, as an item of a list.
  * @param {Unseen} one
  * @param {Range[]} gaps
- * @param {import("./dom.js").Child} form a link to the form for gaps
+ * @param {import("./page.js").Child} form a link to the form for gaps
  * @returns {HTMLElement}
  */
 function unseenItem(one, gaps, form) {
@@ -230,8 +230,8 @@ function endLine(last, horizon, first, end) {
  * @param {[number, number]} range the month's
  * @param {number} [end] the end of what is held, 0 where nothing is
  * @param {Range[]} [gaps]
- * @param {import("./dom.js").Child} [form] a link to the form for gaps
- * @returns {import("./dom.js").Child}
+ * @param {import("./page.js").Child} [form] a link to the form for gaps
+ * @returns {import("./page.js").Child}
  */
 export function notExaminedBox(stretches, range, end = 0, gaps = [], form = null) {
   const all = unseenOf(stretches, range);
@@ -386,7 +386,7 @@ function dayRow(month, { start, columns }) {
  * @returns {HTMLElement}
  */
 function legend(hasCrew) {
-  const sample = (/** @type {string} */ text, /** @type {import("./dom.js").Child[]} */ ...shapes) =>
+  const sample = (/** @type {string} */ text, /** @type {import("./page.js").Child[]} */ ...shapes) =>
     h("span", {}, svg("svg", { viewBox: "0 0 60 24", preserveAspectRatio: "none" }, shapes), text);
   return h("div", { class: "legend", "aria-hidden": "true" },
     Object.keys(HEIGHTS).map((activity) => sample(say[activity], bar(activity, false, 0, 60))),
@@ -434,7 +434,7 @@ export function sheetTable({ days, total, later = [] }) {
   return h("div", { class: "wide", tabindex: "0", role: "region", "aria-label": say.sheet }, h("table", { class: "tight" },
     h("thead", {}, h("tr", {}, heads)),
     h("tbody", {}, days.map(row), rest),
-    h("tfoot", {}, h("tr", {}, h("th", { scope: "row" }, say.total), total.map(cell)))));
+    h("tfoot", {}, h("tr", {}, h("th", { scope: "row" }, say.wholeMonth), total.map(cell)))));
 }
 
 // Debts and gaps
@@ -442,7 +442,7 @@ export function sheetTable({ days, total, later = [] }) {
 /**
  * The rest that is to be made up, and below it the rest that was. Where the examination broke off, it isn't known what became of a debt.
  * @param {Array<Stretch<Debt>>} stretches
- * @returns {import("./dom.js").Child}
+ * @returns {import("./page.js").Child}
  */
 export function debtsPart(stretches) {
   const last = stretches.at(-1);

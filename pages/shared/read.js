@@ -1,6 +1,6 @@
 // What the replies say (docs/FORMATS.md). Every line has to have its form and its place, else the reply is unreadable: what can't be read
 // is never left out. Each function that reads takes the text of a reply, and throws a Problem `unreadable`.
-import { Problem } from "./ask.js";
+import { Problem } from "./page.js";
 import { DAY, dateOf, minuteOf, monthOf, rangeOf, textOf, weekdayOf, weekOf } from "./time.js";
 
 /**
@@ -324,7 +324,7 @@ function runOf(start, past, length) {
 }
 
 /**
- * A length that has to have so many minutes.
+ * A length of exactly this many minutes.
  * @param {string} text
  * @param {number} minutes
  * @returns {number}

@@ -1,11 +1,13 @@
-// The language, and how times and lengths are said in it. words.js has the sentences.
+// The language, and how times and lengths are said in it. Its sentences are in two files, words-en.js or words-de.js: those of both pages
+// in shared/, the others in the page's own folder. Only the files of the language that is shown are loaded.
+import { moduleAt } from "./page.js";
 import { DAY, dateOf, localText, minuteOf, textOf, weekdayOf } from "./time.js";
-import { WORDS } from "./words.js";
-
-export { DAY };
 
 /** Where the language is kept: in localStorage, since it is no secret and holds for all visits. */
 const PLACE = "tacho.language";
+
+/** The languages that there are, each with its own name. @type {Array<[string, string]>} */
+export const LANGUAGES = [["en", "English"], ["de", "Deutsch"]];
 
 /**
  * The language to begin with: the one that was chosen, else the first of the browser's that there is, else English.
@@ -13,16 +15,27 @@ const PLACE = "tacho.language";
  */
 function firstLanguage() {
   const wanted = [localStorage.getItem(PLACE), ...navigator.languages.map((one) => one.split("-")[0].toLowerCase())];
-  return wanted.find((one) => one !== null && Object.hasOwn(WORDS, one)) ?? "en";
+  return wanted.find((one) => LANGUAGES.some(([language]) => language === one)) ?? "en";
+}
+
+/**
+ * The sentences of a language.
+ * @param {string} language
+ * @returns {Promise<Record<string, any>>}
+ */
+async function wordsOf(language) {
+  const folders = ["shared", location.pathname.split("/")[1]];
+  const modules = await Promise.all(folders.map((folder) => moduleAt(`/${folder}/words-${language}.js`)));
+  return Object.assign({}, ...modules.map((module) => module.WORDS));
 }
 
 let language = firstLanguage();
 
-/** The sentences of the present language. @type {Record<string, any>} */
-export let say = WORDS[language];
+/** The sentences of the present language. There are none before `ready`. @type {Record<string, any>} */
+export let say = {};
 
-/** The languages that there are, each with its own name. @type {Array<[string, string]>} */
-export const LANGUAGES = Object.entries(WORDS).map(([one, words]) => [one, words.name]);
+/** A page waits for this before it shows anything. */
+export const ready = wordsOf(language).then((words) => { say = words; });
 
 /**
  * The present language.
@@ -33,16 +46,14 @@ export function languageNow() {
 }
 
 /**
- * Takes another language.
+ * Takes another language, and keeps it for later visits, unless one is chosen while its sentences are loading.
  * @param {string} other
- * @param {boolean} [isKept] whether it is kept for later visits
  */
-export function speak(other, isKept = true) {
-  language = other;
-  say = WORDS[other];
-  if (isKept) {
-    localStorage.setItem(PLACE, other);
-    document.documentElement.lang = other;
+export async function speak(other) {
+  localStorage.setItem(PLACE, other);
+  const words = await wordsOf(other);
+  if (localStorage.getItem(PLACE) === other) {
+    [language, say] = [other, words];
   }
 }
 
@@ -51,25 +62,16 @@ export function speak(other, isKept = true) {
  * @param {string} other
  * @param {() => T} make
  * @template T
- * @returns {T}
+ * @returns {Promise<T>}
  */
-export function withLanguage(other, make) {
-  const was = language;
-  speak(other, false);
+export async function withLanguage(other, make) {
+  const words = await wordsOf(other);
+  const was = /** @type {const} */ ([language, say]);
+  [language, say] = [other, words];
   try {
     return make();
   } finally {
-    speak(was, false);
-  }
-}
-
-/**
- * Adds the sentences of one page to those of all pages.
- * @param {Record<string, Record<string, any>>} tables a table for each language
- */
-export function addWords(tables) {
-  for (const [one, words] of Object.entries(tables)) {
-    Object.assign(WORDS[one], words);
+    [language, say] = was;
   }
 }
 

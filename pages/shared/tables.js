@@ -1,5 +1,5 @@
 // What the replies in CSV say (docs/FORMATS.md): a row for each driver, or for each breach. A text of another form is a problem.
-import { Problem } from "./ask.js";
+import { Problem } from "./page.js";
 import { minuteOf } from "./time.js";
 
 const DAY = /^\d{4}-\d\d-\d\d$/, MOMENT = /^\d{4}-\d\d-\d\d \d\d:\d\d$/, NUMBER = /^\d+$/;

@@ -6,7 +6,7 @@ ghost use Rattle.tacho_pages.specs.Pages.{path_and_type, paths_and_types};
 use tacho_message::{PageFile, PageType};
 
 /// The page files, in the order of their paths.
-pub fn page_files() -> [PageFile; 27]
+pub fn page_files() -> [PageFile; 30]
     ensures { map path_and_type result ≡ paths_and_types }
 {
     [
@@ -21,14 +21,19 @@ pub fn page_files() -> [PageFile; 27]
             text: driver_driver_js(),
         },
         PageFile {
-            path: "/driver/sentences.js",
-            kind: PageType::JavaScript,
-            text: driver_sentences_js(),
-        },
-        PageFile {
             path: "/driver/uploads",
             kind: PageType::Text,
             text: driver_uploads(),
+        },
+        PageFile {
+            path: "/driver/words-de.js",
+            kind: PageType::JavaScript,
+            text: driver_words_de_js(),
+        },
+        PageFile {
+            path: "/driver/words-en.js",
+            kind: PageType::JavaScript,
+            text: driver_words_en_js(),
         },
         PageFile {
             path: "/office/",
@@ -101,19 +106,24 @@ pub fn page_files() -> [PageFile; 27]
             text: office_start_js(),
         },
         PageFile {
-            path: "/shared/ask.js",
+            path: "/office/words-de.js",
             kind: PageType::JavaScript,
-            text: shared_ask_js(),
+            text: office_words_de_js(),
         },
         PageFile {
-            path: "/shared/dom.js",
+            path: "/office/words-en.js",
             kind: PageType::JavaScript,
-            text: shared_dom_js(),
+            text: office_words_en_js(),
         },
         PageFile {
             path: "/shared/page.css",
             kind: PageType::Css,
             text: shared_page_css(),
+        },
+        PageFile {
+            path: "/shared/page.js",
+            kind: PageType::JavaScript,
+            text: shared_page_js(),
         },
         PageFile {
             path: "/shared/parts.js",
@@ -141,9 +151,14 @@ pub fn page_files() -> [PageFile; 27]
             text: shared_time_js(),
         },
         PageFile {
-            path: "/shared/words.js",
+            path: "/shared/words-de.js",
             kind: PageType::JavaScript,
-            text: shared_words_js(),
+            text: shared_words_de_js(),
+        },
+        PageFile {
+            path: "/shared/words-en.js",
+            kind: PageType::JavaScript,
+            text: shared_words_en_js(),
         },
     ]
 }
@@ -159,15 +174,12 @@ fn driver() -> &'static str {
 <!-- So that the browser asks for no icon. -->
 <link rel=\"icon\" href=\"data:,\">
 <link rel=\"stylesheet\" href=\"/shared/page.css\">
-<!-- So that all modules are loaded at once. -->
-<link rel=\"modulepreload\" href=\"/driver/sentences.js\">
-<link rel=\"modulepreload\" href=\"/shared/ask.js\">
-<link rel=\"modulepreload\" href=\"/shared/dom.js\">
+<!-- So that all modules are loaded at once. say.js is run first, since it loads the sentences. -->
+<link rel=\"modulepreload\" href=\"/shared/page.js\">
 <link rel=\"modulepreload\" href=\"/shared/parts.js\">
 <link rel=\"modulepreload\" href=\"/shared/read.js\">
-<link rel=\"modulepreload\" href=\"/shared/say.js\">
 <link rel=\"modulepreload\" href=\"/shared/time.js\">
-<link rel=\"modulepreload\" href=\"/shared/words.js\">
+<script type=\"module\" src=\"/shared/say.js\"></script>
 <script type=\"module\" src=\"/driver/driver.js\"></script>
 </head>
 <!-- driver.js fills each element that has the attribute data-text with the sentence of that name. -->
@@ -197,7 +209,7 @@ fn driver() -> &'static str {
   <section id=\"upload\" class=\"no-print\" aria-labelledby=\"upload-head\" hidden>
     <h2 id=\"upload-head\" data-text=\"upload\"></h2>
     <div id=\"drop\" class=\"drop\">
-      <label for=\"file\" data-text=\"file\"></label>
+      <label for=\"file\" data-text=\"cards\"></label>
       <input id=\"file\" type=\"file\" multiple>
       <p class=\"note\" data-text=\"dropHere\"></p>
     </div>
@@ -219,18 +231,16 @@ fn driver() -> &'static str {
 fn driver_driver_js() -> &'static str {
     "// The driver's page: what is left first, then a month. It asks the archive with the driver's key, and shows the replies. The address after
 // `#` is the month; without one it is the last month that has data.
-import { SENTENCES } from \"./sentences.js\";
-import { KEY_FORM, Problem, bytes, forget, keep, key, reading, send, watch } from \"/shared/ask.js\";
-import { $, h, listed } from \"/shared/dom.js\";
+import { $, KEY_FORM, Problem, bytes, forget, h, keep, key, listed, reading, send, watch } from \"/shared/page.js\";
 import { breachItem, chart, debtsPart, gapsPart, meters, notExaminedBox, sheetTable, undivided, unseenOf } from \"/shared/parts.js\";
 import { lengthOf, readAhead, readBreaches, readDebts, readEntries, readFiles, readGaps, readSheet, readSpans, readVersion, readWhy }
   from \"/shared/read.js\";
-import { LANGUAGES, addWords, both, languageNow, length, monthName, say, speak, utcDay } from \"/shared/say.js\";
+import { LANGUAGES, both, languageNow, length, monthName, ready, say, speak, utcDay } from \"/shared/say.js\";
 import { DAY, dateOf, localText, minuteOf, minutesOfLocal, monthOf, monthStep, nextMorning, now, offsetText, rangeOf, textOf, zone }
   from \"/shared/time.js\";
 
 /** @import { Ahead, Breach, CardFile, Debt, Entry, Range, Sheet, ShownBreach, Span, Stretch } from \"/shared/read.js\" */
-/** @import { Child } from \"/shared/dom.js\" */
+/** @import { Child } from \"/shared/page.js\" */
 /**
  * All that the page shows of a month. `end` is the end of what is held, 0 where nothing is. `ahead` is null where there is no forecast.
  * @typedef {{month: string, sheet: Sheet, spans: Span[], gaps: Range[], stretches: Array<Stretch<Breach>>, why: ShownBreach[],
@@ -577,7 +587,7 @@ function leftTexts({ ahead, end }) {
  */
 function leftPart(month) {
   return h(\"section\", { id: \"left\", \"aria-labelledby\": \"left-head\" },
-    h(\"h2\", { id: \"left-head\" }, say.leftHead),
+    h(\"h2\", { id: \"left-head\" }, say.left),
     startField(month.ahead && !month.ahead.not ? month.ahead.start : state.start ?? nextMorning()),
     leftTexts(month));
 }
@@ -612,7 +622,7 @@ function monthField(month) {
     goTo(field.value.trim());
   };
   return h(\"form\", { id: \"choose\", class: \"row\", onsubmit: take },
-    h(\"label\", { for: \"month\" }, say.total), field, h(\"button\", {}, say.show));
+    h(\"label\", { for: \"month\" }, say.wholeMonth), field, h(\"button\", {}, say.show));
 }
 
 /**
@@ -681,7 +691,7 @@ function entriesPart({ month, entries }) {
   }
   const item = (/** @type {Entry} */ entry) => h(\"li\", {},
     `${both(entry.start)} ${say.to} ${both(entry.past)}: ${say[entry.activity]}, `, h(\"bdi\", {}, entry.author),
-    entry.note ? [\", \", h(\"bdi\", {}, entry.note)] : null, entry.state === \"withdrawn\" ? ` (${say.withdrawn})` : \"\");
+    entry.note ? [\", \", h(\"bdi\", {}, entry.note)] : null, entry.state === \"withdrawn\" ? ` (${say.isWithdrawn})` : \"\");
   return h(\"details\", { id: \"entries\" }, h(\"summary\", {}, say.entered(inMonth.length)), h(\"ul\", {}, inMonth.map(item)));
 }
 
@@ -982,15 +992,23 @@ function unfoldForPrint() {
   }
 }
 
+/** Shows the language that is chosen. */
+async function changeLanguage() {
+  try {
+    await speak($(\"language\").value);
+    render();
+  } catch (fault) {
+    $(\"language\").value = languageNow();
+    tell(sentenceOn(fault));
+  }
+}
+
 /** Begins: with the key of this tab if there is one. */
 async function begin() {
-  addWords(SENTENCES);
+  await ready;
   $(\"language\").append(...LANGUAGES.map(([language, name]) => h(\"option\", { value: language, lang: language }, name)));
   $(\"language\").value = languageNow();
-  $(\"language\").addEventListener(\"change\", () => {
-    speak($(\"language\").value);
-    render();
-  });
+  $(\"language\").addEventListener(\"change\", changeLanguage);
   $(\"sign-in\").addEventListener(\"submit\", signIn);
   $(\"log-out\").addEventListener(\"click\", logOut);
   $(\"file\").addEventListener(\"change\", () => {
@@ -1023,126 +1041,137 @@ begin();
 "
 }
 
-/// The text at `/driver/sentences.js`.
-fn driver_sentences_js() -> &'static str {
-    "// The sentences that only the driver's page has: a table for each language, with the same names. They are added to those of all pages
-// (shared/words.js), and replace those of the same name. Each sentence is on one line, so that two tables can be compared line by line.
+/// The text at `/driver/uploads`.
+fn driver_uploads() -> &'static str {
+    "open
+"
+}
 
-export const SENTENCES = {
-  en: {
-    logOut: \"Log out\",
-    program: (program) => `The replies are from ${program}.`,
+/// The text at `/driver/words-de.js`.
+fn driver_words_de_js() -> &'static str {
+    "// The driver's German sentences. words-en.js has the same names in the same order.
 
-    // What can go wrong
-    badKey: \"No driver has this key. Check it, or ask your office.\",
-    badMonth: \"This isn't a month from 2000-01 to 2099-12, such as 2024-03.\",
-    waits: (seconds) => `Too many requests have come from your connection. The page waits ${seconds} seconds, and then asks again.`,
-    isDown: \"The archive can't be reached at the moment. Nothing that was saved is lost. Try again in a minute.\",
-    noConnection: \"There is no connection to the archive. Nothing that was saved is lost. Try again later, or ask your office.\",
-    unreadable: \"The archive gave a reply that this page can't read, so it shows nothing of it. Reload the page. If that doesn't help, tell your office.\",
-    keepsChanging: \"The archive was changed each time it was asked. Try again in a minute.\",
-    stopped: \"The page has stopped waiting.\",
+export const WORDS = {
+  // The page
+  yourHours: \"Ihre Stunden\",
+  yourKey: \"Ihr Schlüssel\",
+  yourKeyHelp: \"Sie haben ihn vom Büro bekommen. Er bleibt in diesem Tab, bis Sie sich abmelden oder den Tab schließen.\",
+  showHours: \"Meine Stunden zeigen\",
+  program: (program) => `Die Antworten sind von ${program}.`,
 
-    // What is left
-    leftOld: (days, held) => `The last known hour is ${held}, ${days} days before this start. So nothing can be said of what is left. Bring your card to be read.`,
-    leftBroken: (from, to) => `Nothing can be said of what is left, since what is known from ${from} to ${to} isn't examined.`,
-    leftNone: \"Nothing can be said of what is left from this start.\",
-    leftComing: \"Even if nothing more is driven:\",
-    badStart: \"This time doesn't exist: the clocks are changed.\",
+  // What can go wrong
+  badKey: \"Diesen Schlüssel hat kein Fahrer. Prüfen Sie ihn, oder fragen Sie Ihr Büro.\",
+  badMonth: \"Das ist kein Monat von 2000-01 bis 2099-12, wie etwa 2024-03.\",
+  waits: (seconds) => `Über Ihre Verbindung sind zu viele Anfragen gekommen. Die Seite wartet ${seconds} Sekunden und fragt dann noch einmal.`,
+  isDown: \"Das Archiv ist im Augenblick nicht erreichbar. Was gespeichert war, ist nicht verloren. Versuchen Sie es in einer Minute noch einmal.\",
+  noConnection: \"Es gibt keine Verbindung zum Archiv. Was gespeichert war, ist nicht verloren. Versuchen Sie es später noch einmal, oder fragen Sie Ihr Büro.\",
+  unreadable: \"Das Archiv hat etwas geantwortet, was diese Seite nicht lesen kann; sie zeigt nichts davon. Laden Sie die Seite neu. Hilft das nicht, sagen Sie es Ihrem Büro.\",
+  keepsChanging: \"Das Archiv wurde bei jeder Abfrage gerade geändert. Versuchen Sie es in einer Minute noch einmal.\",
+  stopped: \"Die Seite wartet nicht mehr.\",
 
-    // A month
-    moreBreaches: (count) => `${count} more ${count === 1 ? \"breach\" : \"breaches\"} in this month`,
-    others: (count) => `Other months${count === 0 ? \"\" : count === 1 ? \" (1 breach)\" : ` (${count} breaches)`}`,
-    chartName: \"Chart of the month\",
-    noHours: \"Nothing of this month is known.\",
-    entered: (count) => `Entered by hand in this month: ${count}`,
-    withdrawn: \"withdrawn\",
-    handover: (month) => `All of ${month} as one file (.tar)`,
-    fileName: (number, start, past) => `File ${number}: ${start} to ${past}`,
+  // What is left
+  leftOld: (days, held) => `Die letzte bekannte Stunde ist ${held}, ${days} Tage vor diesem Beginn. Darum lässt sich nicht sagen, was noch geht. Lassen Sie Ihre Karte auslesen.`,
+  leftBroken: (from, to) => `Was noch geht, lässt sich nicht sagen, denn was von ${from} bis ${to} bekannt ist, ist nicht geprüft.`,
+  leftNone: \"Von diesem Beginn an lässt sich nicht sagen, was noch geht.\",
+  leftComing: \"Auch wenn nicht mehr gefahren wird:\",
+  badStart: \"Diese Zeit gibt es nicht: die Uhr wird umgestellt.\",
 
-    // Uploads
-    upload: \"Send a card file\",
-    file: \"Card files\",
-    dropHere: \"You can also drop files here. The signature of a file isn't verified.\",
-    sent: {
-      waiting: (name) => `${name} waits.`,
-      sending: (name) => `${name} is being sent …`,
-      added: (name, number) => `${name} was added: it is your file number ${number}.`,
-      repeated: (name) => `${name} has nothing new. The archive already had all of it.`,
-      broken: (name) => `${name} is broken, or isn't the file of a driver card. Nothing of it was taken.`,
-      contradictsItself: (name) => `${name} contradicts itself. Nothing of it was taken. Give it to your office.`,
-      notYours: (name) => `${name} is from another driver's card. Nothing of it was taken.`,
-      contradicts: (name, at) => `${name} contradicts what the archive has for ${at}. Nothing of it was taken. Tell your office.`,
-      isFull: (name) => `${name} wasn't taken: the archive has no more room for your files. Tell your office.`,
-      tooLarge: (name) => `${name} is too large: a card file has at most 262,144 bytes. Nothing of it was taken.`,
-      isShut: (name) => `${name} wasn't taken: the office doesn't take files from drivers here.`,
-      sendAgain: (name) => `It isn't known whether ${name} was taken. Send it again later: if it was, you will see that it has nothing new.`,
-      notSent: (name) => `${name} wasn't sent: too many requests have come from your connection. Wait a minute, and send it again.`,
-      badKey: (name) => `${name} wasn't taken: your key is no longer known. Ask your office for the new one.`,
-      refused: (name) => `${name} wasn't taken.`,
-    },
-  },
+  // A month
+  moreBreaches: (count) => (count === 1 ? \"1 weiterer Verstoß in diesem Monat\" : `${count} weitere Verstöße in diesem Monat`),
+  others: (count) => `Andere Monate${count === 0 ? \"\" : count === 1 ? \" (1 Verstoß)\" : ` (${count} Verstöße)`}`,
+  chartName: \"Diagramm des Monats\",
+  noHours: \"Von diesem Monat ist nichts bekannt.\",
+  entered: (count) => `Von Hand eingetragen in diesem Monat: ${count}`,
+  handover: (month) => `Alles von ${month} als eine Datei (.tar)`,
+  files: \"Ihre Kartendateien\",
+  filesHelp: \"Was von Ihrer Karte gelesen wurde, dürfen Sie als Kopie haben.\",
+  fileName: (number, start, past) => `Datei ${number}: ${start} bis ${past}`,
 
-  de: {
-    logOut: \"Abmelden\",
-    program: (program) => `Die Antworten sind von ${program}.`,
-
-    // Was schiefgehen kann
-    badKey: \"Diesen Schlüssel hat kein Fahrer. Prüfen Sie ihn, oder fragen Sie Ihr Büro.\",
-    badMonth: \"Das ist kein Monat von 2000-01 bis 2099-12, wie etwa 2024-03.\",
-    waits: (seconds) => `Über Ihre Verbindung sind zu viele Anfragen gekommen. Die Seite wartet ${seconds} Sekunden und fragt dann noch einmal.`,
-    isDown: \"Das Archiv ist im Augenblick nicht erreichbar. Was gespeichert war, ist nicht verloren. Versuchen Sie es in einer Minute noch einmal.\",
-    noConnection: \"Es gibt keine Verbindung zum Archiv. Was gespeichert war, ist nicht verloren. Versuchen Sie es später noch einmal, oder fragen Sie Ihr Büro.\",
-    unreadable: \"Das Archiv hat etwas geantwortet, was diese Seite nicht lesen kann; sie zeigt nichts davon. Laden Sie die Seite neu. Hilft das nicht, sagen Sie es Ihrem Büro.\",
-    keepsChanging: \"Das Archiv wurde bei jeder Abfrage gerade geändert. Versuchen Sie es in einer Minute noch einmal.\",
-    stopped: \"Die Seite wartet nicht mehr.\",
-
-    // Was noch geht
-    leftOld: (days, held) => `Die letzte bekannte Stunde ist ${held}, ${days} Tage vor diesem Beginn. Darum lässt sich nicht sagen, was noch geht. Lassen Sie Ihre Karte auslesen.`,
-    leftBroken: (from, to) => `Was noch geht, lässt sich nicht sagen, denn was von ${from} bis ${to} bekannt ist, ist nicht geprüft.`,
-    leftNone: \"Von diesem Beginn an lässt sich nicht sagen, was noch geht.\",
-    leftComing: \"Auch wenn nicht mehr gefahren wird:\",
-    badStart: \"Diese Zeit gibt es nicht: die Uhr wird umgestellt.\",
-
-    // Ein Monat
-    moreBreaches: (count) => (count === 1 ? \"1 weiterer Verstoß in diesem Monat\" : `${count} weitere Verstöße in diesem Monat`),
-    others: (count) => `Andere Monate${count === 0 ? \"\" : count === 1 ? \" (1 Verstoß)\" : ` (${count} Verstöße)`}`,
-    chartName: \"Diagramm des Monats\",
-    noHours: \"Von diesem Monat ist nichts bekannt.\",
-    entered: (count) => `Von Hand eingetragen in diesem Monat: ${count}`,
-    withdrawn: \"zurückgezogen\",
-    handover: (month) => `Alles von ${month} als eine Datei (.tar)`,
-    fileName: (number, start, past) => `Datei ${number}: ${start} bis ${past}`,
-
-    // Hochladen
-    upload: \"Eine Kartendatei senden\",
-    file: \"Kartendateien\",
-    dropHere: \"Sie können Dateien auch hierher ziehen. Die Signatur einer Datei wird nicht geprüft.\",
-    sent: {
-      waiting: (name) => `${name} wartet.`,
-      sending: (name) => `${name} wird gesendet …`,
-      added: (name, number) => `${name} wurde aufgenommen, als Ihre Datei Nummer ${number}.`,
-      repeated: (name) => `${name} bringt nichts Neues. Das Archiv hatte schon alles davon.`,
-      broken: (name) => `${name} ist beschädigt oder keine Datei einer Fahrerkarte. Nichts davon wurde aufgenommen.`,
-      contradictsItself: (name) => `${name} widerspricht sich selbst. Nichts davon wurde aufgenommen. Geben Sie sie Ihrem Büro.`,
-      notYours: (name) => `${name} ist von der Karte eines anderen Fahrers. Nichts davon wurde aufgenommen.`,
-      contradicts: (name, at) => `${name} widerspricht dem, was das Archiv für ${at} hat. Nichts davon wurde aufgenommen. Sagen Sie es Ihrem Büro.`,
-      isFull: (name) => `${name} wurde nicht aufgenommen: Das Archiv hat keinen Platz mehr für Ihre Dateien. Sagen Sie es Ihrem Büro.`,
-      tooLarge: (name) => `${name} ist zu groß: Eine Kartendatei hat höchstens 262.144 Bytes. Nichts davon wurde aufgenommen.`,
-      isShut: (name) => `${name} wurde nicht aufgenommen: Das Büro nimmt hier keine Dateien von Fahrern an.`,
-      sendAgain: (name) => `Es ist nicht bekannt, ob ${name} aufgenommen wurde. Senden Sie sie später noch einmal: Wenn ja, dann bringt sie nichts Neues.`,
-      notSent: (name) => `${name} wurde nicht gesendet: Über Ihre Verbindung sind zu viele Anfragen gekommen. Warten Sie eine Minute, und senden Sie sie noch einmal.`,
-      badKey: (name) => `${name} wurde nicht aufgenommen: Ihren Schlüssel gibt es nicht mehr. Fragen Sie Ihr Büro nach dem neuen.`,
-      refused: (name) => `${name} wurde nicht aufgenommen.`,
-    },
+  // Uploads
+  upload: \"Eine Kartendatei senden\",
+  dropHere: \"Sie können Dateien auch hierher ziehen. Die Signatur einer Datei wird nicht geprüft.\",
+  sent: {
+    waiting: (name) => `${name} wartet.`,
+    sending: (name) => `${name} wird gesendet …`,
+    added: (name, number) => `${name} wurde aufgenommen, als Ihre Datei Nummer ${number}.`,
+    repeated: (name) => `${name} bringt nichts Neues. Das Archiv hatte schon alles davon.`,
+    broken: (name) => `${name} ist beschädigt oder keine Datei einer Fahrerkarte. Nichts davon wurde aufgenommen.`,
+    contradictsItself: (name) => `${name} widerspricht sich selbst. Nichts davon wurde aufgenommen. Geben Sie sie Ihrem Büro.`,
+    notYours: (name) => `${name} ist von der Karte eines anderen Fahrers. Nichts davon wurde aufgenommen.`,
+    contradicts: (name, at) => `${name} widerspricht dem, was das Archiv für ${at} hat. Nichts davon wurde aufgenommen. Sagen Sie es Ihrem Büro.`,
+    isFull: (name) => `${name} wurde nicht aufgenommen: Das Archiv hat keinen Platz mehr für Ihre Dateien. Sagen Sie es Ihrem Büro.`,
+    tooLarge: (name) => `${name} ist zu groß: Eine Kartendatei hat höchstens 262.144 Bytes. Nichts davon wurde aufgenommen.`,
+    isShut: (name) => `${name} wurde nicht aufgenommen: Das Büro nimmt hier keine Dateien von Fahrern an.`,
+    sendAgain: (name) => `Es ist nicht bekannt, ob ${name} aufgenommen wurde. Senden Sie sie später noch einmal: Wenn ja, dann bringt sie nichts Neues.`,
+    notSent: (name) => `${name} wurde nicht gesendet: Über Ihre Verbindung sind zu viele Anfragen gekommen. Warten Sie eine Minute, und senden Sie sie noch einmal.`,
+    badKey: (name) => `${name} wurde nicht aufgenommen: Ihren Schlüssel gibt es nicht mehr. Fragen Sie Ihr Büro nach dem neuen.`,
+    refused: (name) => `${name} wurde nicht aufgenommen.`,
   },
 };
 "
 }
 
-/// The text at `/driver/uploads`.
-fn driver_uploads() -> &'static str {
-    "open
+/// The text at `/driver/words-en.js`.
+fn driver_words_en_js() -> &'static str {
+    "// The driver's English sentences. words-de.js has the same names in the same order.
+
+export const WORDS = {
+  // The page
+  yourHours: \"Your hours\",
+  yourKey: \"Your key\",
+  yourKeyHelp: \"The office has given it to you. It stays in this tab until you log out or close the tab.\",
+  showHours: \"Show my hours\",
+  program: (program) => `The replies are from ${program}.`,
+
+  // What can go wrong
+  badKey: \"No driver has this key. Check it, or ask your office.\",
+  badMonth: \"This isn't a month from 2000-01 to 2099-12, such as 2024-03.\",
+  waits: (seconds) => `Too many requests have come from your connection. The page waits ${seconds} seconds, and then asks again.`,
+  isDown: \"The archive can't be reached at the moment. Nothing that was saved is lost. Try again in a minute.\",
+  noConnection: \"There is no connection to the archive. Nothing that was saved is lost. Try again later, or ask your office.\",
+  unreadable: \"The archive gave a reply that this page can't read, so it shows nothing of it. Reload the page. If that doesn't help, tell your office.\",
+  keepsChanging: \"The archive was changed each time it was asked. Try again in a minute.\",
+  stopped: \"The page has stopped waiting.\",
+
+  // What is left
+  leftOld: (days, held) => `The last known hour is ${held}, ${days} days before this start. So nothing can be said of what is left. Bring your card to be read.`,
+  leftBroken: (from, to) => `Nothing can be said of what is left, since what is known from ${from} to ${to} isn't examined.`,
+  leftNone: \"Nothing can be said of what is left from this start.\",
+  leftComing: \"Even if nothing more is driven:\",
+  badStart: \"This time doesn't exist: the clocks are changed.\",
+
+  // A month
+  moreBreaches: (count) => `${count} more ${count === 1 ? \"breach\" : \"breaches\"} in this month`,
+  others: (count) => `Other months${count === 0 ? \"\" : count === 1 ? \" (1 breach)\" : ` (${count} breaches)`}`,
+  chartName: \"Chart of the month\",
+  noHours: \"Nothing of this month is known.\",
+  entered: (count) => `Entered by hand in this month: ${count}`,
+  handover: (month) => `All of ${month} as one file (.tar)`,
+  files: \"Your card files\",
+  filesHelp: \"You may have a copy of what was read from your card.\",
+  fileName: (number, start, past) => `File ${number}: ${start} to ${past}`,
+
+  // Uploads
+  upload: \"Send a card file\",
+  dropHere: \"You can also drop files here. The signature of a file isn't verified.\",
+  sent: {
+    waiting: (name) => `${name} waits.`,
+    sending: (name) => `${name} is being sent …`,
+    added: (name, number) => `${name} was added: it is your file number ${number}.`,
+    repeated: (name) => `${name} has nothing new. The archive already had all of it.`,
+    broken: (name) => `${name} is broken, or isn't the file of a driver card. Nothing of it was taken.`,
+    contradictsItself: (name) => `${name} contradicts itself. Nothing of it was taken. Give it to your office.`,
+    notYours: (name) => `${name} is from another driver's card. Nothing of it was taken.`,
+    contradicts: (name, at) => `${name} contradicts what the archive has for ${at}. Nothing of it was taken. Tell your office.`,
+    isFull: (name) => `${name} wasn't taken: the archive has no more room for your files. Tell your office.`,
+    tooLarge: (name) => `${name} is too large: a card file has at most 262,144 bytes. Nothing of it was taken.`,
+    isShut: (name) => `${name} wasn't taken: the office doesn't take files from drivers here.`,
+    sendAgain: (name) => `It isn't known whether ${name} was taken. Send it again later: if it was, you will see that it has nothing new.`,
+    notSent: (name) => `${name} wasn't sent: too many requests have come from your connection. Wait a minute, and send it again.`,
+    badKey: (name) => `${name} wasn't taken: your key is no longer known. Ask your office for the new one.`,
+    refused: (name) => `${name} wasn't taken.`,
+  },
+};
 "
 }
 
@@ -1157,8 +1186,9 @@ fn office() -> &'static str {
 <link rel=\"icon\" href=\"data:,\">
 <link rel=\"stylesheet\" href=\"/shared/page.css\">
 <link rel=\"stylesheet\" href=\"office.css\">
+<!-- say.js is run first, since it loads the sentences. -->
 <link rel=\"modulepreload\" href=\"/shared/read.js\">
-<link rel=\"modulepreload\" href=\"/shared/words.js\">
+<script type=\"module\" src=\"/shared/say.js\"></script>
 <script type=\"module\" src=\"office.js\"></script>
 </head>
 <body>
@@ -1176,9 +1206,8 @@ fn office() -> &'static str {
 /// The text at `/office/commands.js`.
 fn office_commands_js() -> &'static str {
     "// Commands: what is sent to change the archive, and what is said of a refusal.
-import { h } from \"/shared/dom.js\";
-import { send } from \"/shared/ask.js\";
-import { addWords, say } from \"/shared/say.js\";
+import { h, send } from \"/shared/page.js\";
+import { say } from \"/shared/say.js\";
 import { busy, dropKey, tellBusy } from \"./office.js\";
 
 const PAUSE = 4, TURNS = 15;
@@ -1208,74 +1237,21 @@ export const isUnsure = (status) => status >= 500 || status === 0;
 export const codeOf = (line) => /^([A-Z]\\d+) /.exec(line)?.[1];
 
 /** What is said of a refusal, with its line below it, for a telephone call.
- * @type {(status: number, line: string) => import(\"/shared/dom.js\").Child} */
+ * @type {(status: number, line: string) => import(\"/shared/page.js\").Child} */
 export const refusal = (status, line) =>
   [say.refusals[codeOf(line)] ?? say.refusedOther, h(\"small\", { class: \"raw\" }, ` ${line || `HTTP ${status}`}`)];
 
 /** @type {(id: string, label: string, attributes: Record<string, unknown>) => HTMLElement} a field with its label */
 export const field = (id, label, attributes) =>
   h(\"div\", { class: \"field\" }, h(\"label\", { for: id }, label), h(\"input\", { id, required: true, ...attributes }));
-
-// The sentences
-
-addWords({
-  en: {
-    waiting: (name) => `${name}: waiting`,
-    what: \"What happened\",
-    noteLabel: \"Paper (note)\",
-    author: \"Your name\",
-    noCard: (name) => `${name}: no file of a driver card.`,
-    refusedOther: \"The archive refused this, and nothing was changed.\",
-    refusals: {
-      S1: \"Another driver has this number.\",
-      S2: \"Another driver, or the office, has this key. Try again: a new key is made.\",
-      S3: \"A driver with this card is registered already.\",
-      S4: \"There is no such driver.\",
-      S6: \"This contradicts what is held. Nothing was taken. Look at the day in the driver's month, and at the entries.\",
-      S7: \"There is no such entry.\",
-      S8: \"An entry of these was withdrawn before. Nothing was changed.\",
-      S9: \"This day isn't a Monday.\",
-      S14: \"The driver has no room for more.\",
-      E9: \"A value has another form than it may have.\",
-      E10: \"The name or the note is too long, or has a comma or a double quote.\",
-      E3: \"A time can't be read.\",
-      E4: \"The times aren't in order.\",
-      Z3: \"This date is out of the range that is read, 2000 to 2099.\",
-    },
-  },
-  de: {
-    waiting: (name) => `${name}: wartet`,
-    what: \"Was war\",
-    noteLabel: \"Papier (Notiz)\",
-    author: \"Ihr Name\",
-    noCard: (name) => `${name}: keine Datei einer Fahrerkarte.`,
-    refusedOther: \"Das Archiv hat das abgelehnt, und nichts wurde geändert.\",
-    refusals: {
-      S1: \"Diese Nummer hat ein anderer Fahrer.\",
-      S2: \"Diesen Schlüssel hat ein anderer Fahrer oder das Büro. Versuchen Sie es noch einmal: Es wird ein neuer gemacht.\",
-      S3: \"Ein Fahrer mit dieser Karte ist schon angemeldet.\",
-      S4: \"Es gibt diesen Fahrer nicht.\",
-      S6: \"Das widerspricht dem, was da ist. Nichts wurde aufgenommen. Sehen Sie sich den Tag im Monat des Fahrers an, und die Einträge.\",
-      S7: \"Diesen Eintrag gibt es nicht.\",
-      S8: \"Ein Eintrag davon war schon zurückgezogen. Nichts wurde geändert.\",
-      S9: \"Dieser Tag ist kein Montag.\",
-      S14: \"Für diesen Fahrer ist kein Platz mehr.\",
-      E9: \"Ein Wert hat eine andere Form, als er haben darf.\",
-      E10: \"Der Name oder die Notiz ist zu lang oder hat ein Komma oder ein Anführungszeichen.\",
-      E3: \"Eine Zeit ist nicht lesbar.\",
-      E4: \"Die Zeiten sind nicht in der Reihenfolge.\",
-      Z3: \"Dieses Datum liegt nicht in den Jahren 2000 bis 2099, die gelesen werden.\",
-    },
-  },
-});
 "
 }
 
 /// The text at `/office/entries.js`.
 fn office_entries_js() -> &'static str {
     "// A driver's entries, and their withdrawal.
-import { $, h } from \"/shared/dom.js\";
-import { addWords, both, length, monthName, say } from \"/shared/say.js\";
+import { $, h } from \"/shared/page.js\";
+import { both, length, monthName, say } from \"/shared/say.js\";
 import { readDrivers, readEntries } from \"/shared/read.js\";
 import { ask, button, confirmed, head, listTable, notice, thisMonth, tool } from \"./office.js\";
 import { command, field, isUnsure, refusal } from \"./commands.js\";
@@ -1329,52 +1305,18 @@ export async function page({ signal, args: [driver], again }) {
       : [entries.length > 1 ? rangeForm(entries.length, act) : null,
         listTable(columnsOf((number) => act(number, number)), entries.reverse())]];
 }
-
-// The sentences of this page
-
-addWords({
-  en: {
-    entriesHelp: \"Hours that were entered by hand. An entry that is withdrawn stays listed, and gives nothing.\",
-    noEntries: \"There are no entries.\",
-    fromTo: \"From, to\",
-    state: \"State\",
-    isWithdrawn: \"withdrawn\",
-    withdraw: \"Withdraw\",
-    withdrawRange: \"Withdraw all of these\",
-    firstEntry: \"From entry\",
-    lastEntry: \"To entry\",
-    withdrawAsk: (a, b) => (a === b ? `Withdraw entry ${a}? That can't be undone; the hours can be entered again.`
-      : `Withdraw the ${b - a + 1} entries from ${a} to ${b}? That can't be undone; the hours can be entered again.`),
-    unsureWithdrawn: \"The connection broke. The list shows what is withdrawn now.\",
-  },
-  de: {
-    entriesHelp: \"Stunden, die von Hand eingetragen wurden. Ein zurückgezogener Eintrag bleibt in der Liste und gibt nichts.\",
-    noEntries: \"Es gibt keine Einträge.\",
-    fromTo: \"Von, bis\",
-    state: \"Stand\",
-    isWithdrawn: \"zurückgezogen\",
-    withdraw: \"Zurückziehen\",
-    withdrawRange: \"Alle diese zurückziehen\",
-    firstEntry: \"Von Eintrag\",
-    lastEntry: \"Bis Eintrag\",
-    withdrawAsk: (a, b) => (a === b ? `Eintrag ${a} zurückziehen? Das ist endgültig; die Stunden können neu eingetragen werden.`
-      : `Die ${b - a + 1} Einträge von ${a} bis ${b} zurückziehen? Das ist endgültig; die Stunden können neu eingetragen werden.`),
-    unsureWithdrawn: \"Die Verbindung brach ab. Die Liste zeigt, was jetzt zurückgezogen ist.\",
-  },
-});
 "
 }
 
 /// The text at `/office/files.js`.
 fn office_files_js() -> &'static str {
     "// Card files, one after the other. The list outlives the page, so that an office can look at other pages meanwhile.
-import { h } from \"/shared/dom.js\";
+import { h } from \"/shared/page.js\";
 import { minuteOf, textOf } from \"/shared/time.js\";
-import { addWords, both, monthName, say } from \"/shared/say.js\";
+import { both, monthName, say } from \"/shared/say.js\";
 import { cardOf, holderOf, readDrivers } from \"/shared/read.js\";
 import { ask, atLogOut, button, confirmed, head, link, proposed, thisMonth, unfinished } from \"./office.js\";
 import { codeOf, command, isUnsure } from \"./commands.js\";
-import { many } from \"/shared/words.js\";
 
 const MOST = 262_144, NAME = /\\.(ddd|c1b|tgd|esm)$/i, FAULTS_IN_A_ROW = 2;
 
@@ -1582,69 +1524,20 @@ async function clear() {
 export async function page({ signal }) {
   people = readDrivers(await ask(\"/drivers\", signal));
   draw();
-  return [head(say.cardsHead, items.length ? button(say.clearList, clear) : null), dropPlace(), progress, list];
+  return [head(say.cards, items.length ? button(say.clearList, clear) : null), dropPlace(), progress, list];
 }
-
-// The sentences of this page
-
-addWords({
-  en: {
-    cardsHead: \"Card files\",
-    cardsHelp: \"Files of driver cards (.ddd, .c1b, .tgd, .esm), up to 262,144 bytes each. Signatures aren't verified. Keep the files: \"
-      + \"the archive keeps only those with something new.\",
-    stop: \"Stop\",
-    added: (name, who, k) => `${name}: added to ${who} as file ${k}.`,
-    repeated: (name, who) => `${name}: nothing new for ${who}. Keep the file: the archive doesn't.`,
-    unknownCard: (name, card) => `${name}: the card of a driver who isn't registered${card ? ` (${card})` : \"\"}. Nothing was taken.`,
-    register: \"Register this driver\",
-    contradicts: (name, at) => `${name}: contradicts what is held for ${at}. Nothing was taken. Either hours entered by hand are `
-      + `wrong, or two files of the card differ.`,
-    generations: (name) => `${name}: the two generations of this card contradict each other. Nothing was taken.`,
-    tryPart: { first: \"Read the first generation alone\", second: \"Read the second generation alone\" },
-    unsure: (name) => `${name}: it isn't known whether it was taken. Send it again: if it was, it has nothing new.`,
-    sending: (name) => `${name}: being sent …`,
-    counted: (added, same, others) => `${added} added, ${same} with nothing new, ${others} not taken`,
-    goOn: \"Go on\",
-    clearList: \"Clear the list\",
-    stoppedFiles: (n) => `Stopped: ${many(n, \"file waits\", \"files wait\")}.`,
-    noCards: (n) => `${many(n, \"other file\", \"other files\")} in the folders: no card files by their names, and not sent.`,
-  },
-  de: {
-    cardsHead: \"Kartendateien\",
-    cardsHelp: \"Dateien von Fahrerkarten (.ddd, .c1b, .tgd, .esm), je höchstens 262.144 Bytes. Signaturen werden nicht geprüft. \"
-      + \"Behalten Sie die Dateien: das Archiv behält nur, was etwas Neues hat.\",
-    stop: \"Anhalten\",
-    added: (name, who, k) => `${name}: bei ${who} aufgenommen als Datei ${k}.`,
-    repeated: (name, who) => `${name}: nichts Neues für ${who}. Behalten Sie die Datei: das Archiv tut es nicht.`,
-    unknownCard: (name, card) => `${name}: die Karte eines Fahrers, der nicht angemeldet ist${card ? ` (${card})` : \"\"}. Nichts wurde `
-      + `aufgenommen.`,
-    register: \"Diesen Fahrer anmelden\",
-    contradicts: (name, at) => `${name}: widerspricht dem, was für ${at} da ist. Nichts wurde aufgenommen. Entweder ist ein Eintrag `
-      + `von Hand falsch, oder zwei Dateien der Karte unterscheiden sich.`,
-    generations: (name) => `${name}: die zwei Generationen der Karte widersprechen sich. Nichts wurde aufgenommen.`,
-    tryPart: { first: \"Nur die erste Generation lesen\", second: \"Nur die zweite Generation lesen\" },
-    unsure: (name) => `${name}: unklar, ob sie aufgenommen wurde. Senden Sie sie noch einmal: wenn ja, bringt sie nichts Neues.`,
-    sending: (name) => `${name}: wird gesendet …`,
-    counted: (added, same, others) => `${added} aufgenommen, ${same} ohne Neues, ${others} nicht aufgenommen`,
-    goOn: \"Weiter\",
-    clearList: \"Liste leeren\",
-    stoppedFiles: (n) => `Angehalten: ${many(n, \"Datei wartet\", \"Dateien warten\")}.`,
-    noCards: (n) => `${many(n, \"andere Datei\", \"andere Dateien\")} in den Ordnern: dem Namen nach keine Kartendateien, nicht gesendet.`,
-  },
-});
 "
 }
 
 /// The text at `/office/gaps.js`.
 fn office_gaps_js() -> &'static str {
     "// The gaps as a form, in local time. It sends UTC.
-import { h } from \"/shared/dom.js\";
+import { h } from \"/shared/page.js\";
 import { DAY, dateOf, localText, minuteOf, minutesOfLocal, textOf } from \"/shared/time.js\";
-import { addWords, length, localMoment, monthName, say } from \"/shared/say.js\";
+import { length, localMoment, monthName, say } from \"/shared/say.js\";
 import { readDrivers, readEntries, readForm } from \"/shared/read.js\";
 import { ask, busy, button, head, momentField, notice, thisMonth, tool, unfinished } from \"./office.js\";
 import { command, field, isUnsure, refusal } from \"./commands.js\";
-import { many } from \"/shared/words.js\";
 
 const AUTHOR = \"tacho.author\", AUTHOR_BYTES = 64, NOTE_BYTES = 200, FEW = 60;
 
@@ -1825,69 +1718,12 @@ export async function page(context) {
   const [person] = readDrivers(await ask(`/drivers/${driver}`, signal));
   const gaps = readForm(await ask(`/drivers/${driver}/form`, signal)),
     entries = readEntries(await ask(`/drivers/${driver}/entries`, signal));
-  const title = head([h(\"bdi\", {}, person.name), `: ${say.gapsHead}`], tool(`/drivers/${driver}/entries`, say.entries),
+  const title = head([h(\"bdi\", {}, person.name), `: ${say.gaps}`], tool(`/drivers/${driver}/entries`, say.entries),
     tool(`/drivers/${driver}/${thisMonth()}`, monthName(thisMonth())));
   if (gaps.length === 0) return [title, h(\"p\", { class: \"box good\" }, say.noGapsAtAll)];
   const form = new GapForm(driver, gaps.map((gap) => ({ ...gap, activity: \"\", note: \"\" })), entries.length, context);
   return [title, h(\"p\", {}, say.gapsHelp), h(\"p\", { class: \"note\" }, say.workHelp), h(\"p\", { class: \"box\" }, say.neverIllness), form.node];
 }
-
-// The sentences of this page
-
-addWords({
-  en: {
-    gapsHelp: \"Times are local. Write only what a paper says (roster, leave list, printout), and name the paper.\",
-    gapsHead: \"Unknown hours\",
-    save: \"Save\",
-    split: \"Split\",
-    skipRow: \"leave open\",
-    rows: (n) => `${many(n, \"row\", \"rows\")} will be saved.`,
-    neverIllness: \"A note can't be deleted, and the driver can read it. Never write illness into it: “absent by list 7” is enough.\",
-    workHelp: \"Driving a car or van, workshop, course, loading: other work. Leave, illness, free time: rest.\",
-    splitAt: \"Split at (local time)\",
-    splitWithin: \"Choose a time within these hours.\",
-    splitDays: (n) => `Split by days (${n})`,
-    papers: [\"roster\", \"leave list\", \"printout\", \"workshop order\"],
-    textTooLong: (n) => `At most ${n} bytes.`,
-    textSigns: \"No comma, no double quote and no control character.\",
-    saving: \"Being saved …\",
-    looking: \"The connection broke. Looking at what is there …\",
-    savedEntries: (a, b) => (a === b ? `Saved as entry ${a}.` : `Saved as entries ${a} to ${b}.`),
-    notSaved: \"Nothing was saved. Try again.\",
-    lookAgain: \"Look again\",
-    otherEntries: \"The connection broke, and other entries were added meanwhile. The form shows what is still unknown; the entries \"
-      + \"show the rest.\",
-    unsureEntries: \"It isn't known whether this was saved. Before that is known, nothing can be sent.\",
-    noGapsAtAll: \"There are no gaps from the base to the end of what is known.\",
-  },
-  de: {
-    gapsHelp: \"Zeiten sind Ortszeit. Schreiben Sie nur, was ein Papier sagt (Dienstplan, Urlaubsliste, Ausdruck), und nennen Sie das \"
-      + \"Papier.\",
-    gapsHead: \"Unbekannte Stunden\",
-    save: \"Speichern\",
-    split: \"Teilen\",
-    skipRow: \"offen lassen\",
-    rows: (n) => `${many(n, \"Zeile wird\", \"Zeilen werden\")} gespeichert.`,
-    neverIllness: \"Eine Notiz kann nicht gelöscht werden, und der Fahrer kann sie lesen. Schreiben Sie nie eine Krankheit hinein: \"
-      + \"„abwesend nach Liste 7“ genügt.\",
-    workHelp: \"Auto oder Transporter fahren, Werkstatt, Kurs, Laden: andere Arbeit. Urlaub, Krankheit, Freizeit: Ruhe.\",
-    splitAt: \"Teilen um (Ortszeit)\",
-    splitWithin: \"Wählen Sie eine Zeit innerhalb dieser Stunden.\",
-    splitDays: (n) => `Nach Tagen teilen (${n})`,
-    papers: [\"Dienstplan\", \"Urlaubsliste\", \"Ausdruck\", \"Werkstattauftrag\"],
-    textTooLong: (n) => `Höchstens ${n} Bytes.`,
-    textSigns: \"Kein Komma, kein Anführungszeichen und kein Steuerzeichen.\",
-    saving: \"Wird gespeichert …\",
-    looking: \"Die Verbindung brach ab. Es wird nachgesehen, was da ist …\",
-    savedEntries: (a, b) => (a === b ? `Gespeichert als Eintrag ${a}.` : `Gespeichert als Einträge ${a} bis ${b}.`),
-    notSaved: \"Nichts wurde gespeichert. Versuchen Sie es noch einmal.\",
-    lookAgain: \"Noch einmal nachsehen\",
-    otherEntries: \"Die Verbindung brach ab, und inzwischen kamen andere Einträge hinzu. Das Formular zeigt, was noch unbekannt ist; \"
-      + \"die Einträge zeigen das Übrige.\",
-    unsureEntries: \"Es ist nicht bekannt, ob das gespeichert wurde. Bevor das bekannt ist, kann nichts gesendet werden.\",
-    noGapsAtAll: \"Vom Beginn der Prüfung bis zum Ende dessen, was bekannt ist, gibt es keine Lücken.\",
-  },
-});
 "
 }
 
@@ -1895,10 +1731,9 @@ addWords({
 fn office_inspection_js() -> &'static str {
     "// An inspection: what the archive hands over of a driver and a period, and what isn't in it. What is shown is read in the tar file that
 // is saved.
-import { $, h } from \"/shared/dom.js\";
-import { Problem, bytes } from \"/shared/ask.js\";
+import { $, Problem, bytes, h } from \"/shared/page.js\";
 import { DAY, dateOf, minuteOf, monthOf, monthStep, now } from \"/shared/time.js\";
-import { addWords, both, monthName, say, utcDay } from \"/shared/say.js\";
+import { both, monthName, say, utcDay } from \"/shared/say.js\";
 import { cardOf, linesOf, readDrivers } from \"/shared/read.js\";
 import { ask, atLogOut, button, head, link, listTable, notice, printButton, tellWait } from \"./office.js\";
 import { field } from \"./commands.js\";
@@ -2012,63 +1847,19 @@ async function answer(people, signal) {
 /** @type {(context: import(\"./office.js\").Context) => Promise<import(\"./office.js\").Content>} */
 export async function page({ signal, again }) {
   const people = readDrivers(await ask(\"/drivers\", signal));
-  return [head(say.inspHead, asked ? printButton() : null), people.length ? askForm(people, again) : h(\"p\", {}, say.noDriversYet),
+  return [head(say.inspection, asked ? printButton() : null), people.length ? askForm(people, again) : h(\"p\", {}, say.noDriversYet),
     asked ? await answer(people, signal) : null,
     h(\"h2\", {}, say.missing), h(\"div\", { class: \"box warn\" }, h(\"ul\", {}, say.inspMissing.map((one) => h(\"li\", {}, one))))];
 }
-
-// The sentences of this page
-
-addWords({
-  en: {
-    missing: \"What isn't in this archive\",
-    inspHead: \"Inspection\",
-    size: \"Bytes\",
-    covers: \"Covers\",
-    knownOf: (n, all) => `${n} of ${all} days known without a gap`,
-    give: \"What you have to give\",
-    help: \"What may help you\",
-    makeTar: \"Save as one file (.tar)\",
-    inspMissing: [\"card files that had nothing new or were refused: the office keeps them itself\", \"files of vehicle units\",
-      \"printouts and manual records\", \"the list of drivers and vehicles\", \"rosters and records of working time\"],
-    entriesFile: \"entries by hand\",
-    tarHelp: (name) => `It is saved as ${name}. Where it has a card file, it is byte for byte the one that was imported.`,
-    notHeld: \"Not known in this period\",
-    periodFrom: \"From (UTC)\",
-    periodTo: \"To (UTC)\",
-    badPeriod: \"The period has to have 1 to 366 days.\",
-    helpText: \"The months of the period, to look at and to print:\",
-  },
-  de: {
-    missing: \"Was nicht in diesem Archiv ist\",
-    inspHead: \"Kontrolle\",
-    size: \"Bytes\",
-    covers: \"Zeitraum\",
-    knownOf: (n, all) => `${n} von ${all} Tagen ohne Lücke bekannt`,
-    give: \"Was Sie geben müssen\",
-    help: \"Was Ihnen helfen kann\",
-    makeTar: \"Als eine Datei sichern (.tar)\",
-    inspMissing: [\"Kartendateien, die nichts Neues hatten oder abgelehnt wurden: das Büro behält sie selbst\",
-      \"Dateien der Fahrzeugeinheiten\", \"Ausdrucke und handschriftliche Aufzeichnungen\", \"die Liste der Fahrer und Fahrzeuge\",
-      \"Dienstpläne und Aufzeichnungen der Arbeitszeit\"],
-    entriesFile: \"Einträge von Hand\",
-    tarHelp: (name) => `Gespeichert wird ${name}. Eine Kartendatei darin ist Byte für Byte die eingelesene.`,
-    notHeld: \"In diesem Zeitraum nicht bekannt\",
-    periodFrom: \"Von (UTC)\",
-    periodTo: \"Bis (UTC)\",
-    badPeriod: \"Der Zeitraum muss 1 bis 366 Tage haben.\",
-    helpText: \"Die Monate des Zeitraums, zum Ansehen und Drucken:\",
-  },
-});
 "
 }
 
 /// The text at `/office/left.js`.
 fn office_left_js() -> &'static str {
     "// What is left until the limits, for all drivers and for one. Each loads what the other doesn't need.
-import { h } from \"/shared/dom.js\";
+import { h } from \"/shared/page.js\";
 import { DAY, textOf, tomorrow } from \"/shared/time.js\";
-import { addWords, both, length, localMoment, monthName, say, shortUtcDay } from \"/shared/say.js\";
+import { both, length, localMoment, monthName, say, shortUtcDay } from \"/shared/say.js\";
 import { leftOf, readAhead, readDebts, readDrivers } from \"/shared/read.js\";
 import { ask, atLogOut, head, link, listTable, momentField, printButton, thisMonth, tool, zoneLine } from \"./office.js\";
 
@@ -2158,7 +1949,7 @@ const untold = (rows) => (rows.length === 0 ? null : [h(\"h2\", {}, say.leftUnto
 async function leftAll({ signal, again }) {
   const { readForecast } = await import(\"/shared/tables.js\");
   const rows = readForecast(await ask(`/forecast/${textOf(startOfDriving()).replace(\" \", \"/\")}`, signal)), told = rows.filter(isTold);
-  return [head(`${say.leftHead}: ${localMoment(startOfDriving(), true)}`, printButton()), startForm(again),
+  return [head(`${say.left}: ${localMoment(startOfDriving(), true)}`, printButton()), startForm(again),
     h(\"p\", { class: \"box\" }, say.leftAssume),
     told.length ? listTable(columns(), told) : null, untold(rows.filter((row) => !isTold(row))),
     h(\"p\", { class: \"note\" }, `– : ${say.notBinding}.`), zoneLine()];
@@ -2193,7 +1984,7 @@ async function leftOne({ signal, args: [driver], again }) {
   const ahead = readAhead(await ask(`/drivers/${driver}/ahead/${textOf(startOfDriving()).replace(\" \", \"/\")}`, signal)),
     [person] = readDrivers(await ask(`/drivers/${driver}`, signal));
   const debts = readDebts(await ask(`/drivers/${driver}/debts`, signal));
-  const title = head([h(\"bdi\", {}, person.name), `: ${say.leftHead}`], tool(`/drivers/${driver}/${thisMonth()}`, monthName(thisMonth())),
+  const title = head([h(\"bdi\", {}, person.name), `: ${say.left}`], tool(`/drivers/${driver}/${thisMonth()}`, monthName(thisMonth())),
     printButton());
   const held = isNever(ahead) ? \"\" : ` · ${say.colHeld} ${both(ahead.held)}`;
   return [title, startForm(again), h(\"p\", {}, h(\"b\", {}, `${say.startAt}: ${both(ahead.start)}`), held), toldOf(ahead, meters),
@@ -2202,46 +1993,18 @@ async function leftOne({ signal, args: [driver], again }) {
 
 /** @type {(context: import(\"./office.js\").Context) => Promise<import(\"./office.js\").Content>} */
 export const page = (context) => (context.args.length ? leftOne(context) : leftAll(context));
-
-// The sentences of these pages
-
-addWords({
-  en: {
-    coming: \"This comes even if nothing is driven:\",
-    youngHelp: (d) => `What was driven before ${d} isn't known, so nothing is said of two weeks.`,
-    leftCrew: \"Nothing can be said: a second driver is recorded at the end of what is known.\",
-    young: (d) => `known from ${d}`,
-    binds: { day: \"\", week: \"week\", two: \"two weeks\" },
-    leftCols: [\"Driver\", \"Known to\", \"Driving that day\", \"First break after\", \"Daily rest begins by\", \"Left in the week\",
-      \"Left in two weeks\", \"Weekly rest begins by\", \"Used: short rests, long days\"],
-    notBinding: \"isn't reached this week\",
-    leftUntold: \"Nothing can be said of these drivers\",
-  },
-  de: {
-    coming: \"Das kommt, auch wenn nicht gefahren wird:\",
-    youngHelp: (d) => `Was vor ${d} gefahren wurde, ist nicht bekannt; deshalb steht hier nichts von zwei Wochen.`,
-    leftCrew: \"Nichts ist zu sagen: Am Ende dessen, was bekannt ist, steht ein zweiter Fahrer.\",
-    young: (d) => `bekannt ab ${d}`,
-    binds: { day: \"\", week: \"Woche\", two: \"zwei Wochen\" },
-    leftCols: [\"Fahrer\", \"Bekannt bis\", \"Lenken an diesem Tag\", \"Erste Unterbrechung nach\", \"Tägliche Ruhe beginnt bis\",
-      \"Noch in der Woche\", \"Noch in zwei Wochen\", \"Wochenruhe beginnt bis\", \"Verbraucht: kurze Ruhen, lange Tage\"],
-    notBinding: \"wird diese Woche nicht erreicht\",
-    leftUntold: \"Von diesen Fahrern ist nichts zu sagen\",
-  },
-});
 "
 }
 
 /// The text at `/office/letter.js`.
 fn office_letter_js() -> &'static str {
     "// A letter to a driver about the breaches of a month, in UTC with local time.
-import { h } from \"/shared/dom.js\";
+import { h } from \"/shared/page.js\";
 import { DAY, now, rangeOf } from \"/shared/time.js\";
-import { addWords, formal, languageNow, localMoment, monthName, say, withLanguage } from \"/shared/say.js\";
+import { formal, languageNow, localMoment, monthName, say, withLanguage } from \"/shared/say.js\";
 import { cardOf, readDrivers, readEntries, readFiles, readVersion, readWhy } from \"/shared/read.js\";
 import { breachItem, isUnfinished } from \"/shared/parts.js\";
 import { ask, button, head, languageField, tool } from \"./office.js\";
-import { many } from \"/shared/words.js\";
 
 const SENDER = \"tacho.sender\", LANGUAGE = \"tacho.letter.\", DAYS_TO_ANSWER = 14, DIGITS = 12, ANSWER_LINES = 3;
 
@@ -2304,77 +2067,23 @@ export async function page({ signal, args: [driver, month], again }) {
     ready.length < all.length ? h(\"div\", { class: \"box warn\", id: \"left-out\" }, h(\"p\", {}, say.letterOpen(all.length - ready.length)))
       : null,
     h(\"p\", { class: \"note\" }, `${say.from}: ${say.senderHelp}`)),
-  withLanguage(language, () => sheetOf({
+  await withLanguage(language, () => sheetOf({
     person, ready, month, language, program, files: files.filter(isWithin),
       entries: entries.filter((one) => one.state === \"kept\" && isWithin(one)),
   }))];
 }
-
-// The sentences of this page
-
-addWords({
-  en: {
-    letterHead: (month) => `Your driving and rest times in ${month}`,
-    dear: (name) => `Dear ${name},`,
-    letterIntro: (n, month) => `we have checked the hours that your driver card recorded in ${month} against Regulation (EC) No `
-      + `561/2006. ${n === 1 ? \"One point needs\" : `${n} points need`} your attention:`,
-    letterAsk: \"Is anything wrong here, or missing? Then please tell us, and bring your printout or note of that day. Otherwise please \"
-      + \"tell us how it came about. Please answer by\",
-    letterInstruct: \"We instruct you to keep to these limits. If a journey can't be done within them, tell us before you exceed one.\",
-    letterNone: \"There is no finished breach to write about in this month.\",
-    letterOpen: (n) => `${many(n, \"breach is\", \"breaches are\")} left out: what shows ${n === 1 ? \"it isn't\" : \"them isn't\"} complete `
-      + `yet. Import the next card file first.`,
-    letterHand: \"Entered by hand in this month, and not from the card:\",
-    letterFiles: (files, program) =>
-      `Source: card files ${files}. Examined with ${program}. Times in UTC as on the card, local time in brackets.`,
-    answer: \"Driver's answer\",
-    signed: \"Place, date, signature\",
-    forOffice: \"For the company\",
-    forDriver: \"Driver: read and answered\",
-    date2: \"Date\",
-    cardNo: \"Driver card\",
-    letterLanguage: \"Language of the letter\",
-    senderHelp: \"Kept in this browser only.\",
-  },
-  de: {
-    letterHead: (month) => `Ihre Lenk- und Ruhezeiten im ${month}`,
-    dear: (name) => `Guten Tag ${name},`,
-    letterIntro: (n, month) => `wir haben die Stunden, die Ihre Fahrerkarte im ${month} aufgezeichnet hat, nach der Verordnung (EG) `
-      + `Nr. 561/2006 geprüft. ${n === 1 ? \"Zu einem Punkt\" : `Zu ${n} Punkten`} bitten wir Sie um Antwort:`,
-    letterAsk: \"Ist hier etwas falsch, oder fehlt etwas? Dann sagen Sie es uns bitte, und bringen Sie Ihren Ausdruck oder Ihre Notiz \"
-      + \"von diesem Tag mit. Sonst sagen Sie uns bitte, wie es dazu kam. Bitte antworten Sie bis\",
-    letterInstruct: \"Wir weisen Sie an, diese Grenzen einzuhalten. Ist eine Fahrt innerhalb der Grenzen nicht zu schaffen, sagen Sie \"
-      + \"es uns, bevor Sie eine überschreiten.\",
-    letterNone: \"In diesem Monat gibt es keinen abgeschlossenen Verstoß, über den zu schreiben wäre.\",
-    letterOpen: (n) => `${n === 1 ? \"Ein Verstoß ist\" : `${n} Verstöße sind`} ausgelassen: der Beleg ist noch nicht vollständig. Lesen `
-      + `Sie zuerst die nächste Kartendatei ein.`,
-    letterHand: \"In diesem Monat von Hand eingetragen und nicht von der Karte:\",
-    letterFiles: (files, program) =>
-      `Quelle: Kartendateien ${files}. Geprüft mit ${program}. Zeiten in UTC wie auf der Karte, Ortszeit in Klammern.`,
-    answer: \"Antwort des Fahrers\",
-    signed: \"Ort, Datum, Unterschrift\",
-    forOffice: \"Für das Unternehmen\",
-    forDriver: \"Fahrer: gelesen und beantwortet\",
-    date2: \"Datum\",
-    cardNo: \"Fahrerkarte\",
-    letterLanguage: \"Sprache des Briefs\",
-    senderHelp: \"Bleibt nur in diesem Browser.\",
-  },
-});
 "
 }
 
 /// The text at `/office/month.js`.
 fn office_month_js() -> &'static str {
     "// A driver's month.
-import { h } from \"/shared/dom.js\";
-import { Problem } from \"/shared/ask.js\";
+import { Problem, h } from \"/shared/page.js\";
 import { monthStep, now, offsetText, rangeOf, zone } from \"/shared/time.js\";
-import { addWords, monthName, say } from \"/shared/say.js\";
+import { monthName, say } from \"/shared/say.js\";
 import { readBreaches, readDebts, readEntries, readFiles, readGaps, readSheet, readSpans, readWhy } from \"/shared/read.js\";
 import { breachItem, chart, debtsPart, gapsPart, notExaminedBox, sheetTable, unseenOf } from \"/shared/parts.js\";
 import { ask, head, link, printButton, tool } from \"./office.js\";
-import { many } from \"/shared/words.js\";
 
 const TURNS = 3, DRIVE = 3;
 
@@ -2448,19 +2157,6 @@ export async function page({ signal, args: [driver, month, day] }) {
       h(\"div\", {}, h(\"h2\", {}, say.sheet), sheetTable({ days, later, total: sheet.total }))),
     h(\"p\", { class: \"note\" }, say.zoneNote(zone(), offsetText(range[0])))];
 }
-
-// The sentences of this page
-
-addWords({
-  en: {
-    source: \"Source\",
-    entriesOf: (n) => many(n, \"entry by hand\", \"entries by hand\"),
-  },
-  de: {
-    source: \"Quelle\",
-    entriesOf: (n) => many(n, \"Eintrag von Hand\", \"Einträge von Hand\"),
-  },
-});
 "
 }
 
@@ -3087,13 +2783,12 @@ dialog::backdrop {
 fn office_office_js() -> &'static str {
     "// The frame of the office's pages: the key, the address after #, which names the page, and what several pages use. Each page is a module
 // that is loaded when it is first opened.
-import { $, h, listed } from \"/shared/dom.js\";
-import { KEY_FORM, Problem, forget, keep, key, reading } from \"/shared/ask.js\";
+import { $, KEY_FORM, MODULE, Problem, forget, h, keep, key, listed, moduleAt, reading } from \"/shared/page.js\";
 import { localText, minutesOfLocal, monthOf, now, offsetText, textOf, zone } from \"/shared/time.js\";
 import { readVersion } from \"/shared/read.js\";
-import { addWords, LANGUAGES, languageNow, say, speak } from \"/shared/say.js\";
+import { LANGUAGES, languageNow, ready, say, speak } from \"/shared/say.js\";
 
-/** @typedef {import(\"/shared/dom.js\").Child} Content */
+/** @typedef {import(\"/shared/page.js\").Child} Content */
 /** @typedef {{ signal: AbortSignal, args: string[], again: (notice?: Node) => void }} Context what a page gets: a signal that ends its
  *  requests, the parts of its address, and how to show it anew */
 /** @typedef {{ head: string, cell: (row: any) => Content, kind?: string, kindOf?: (row: any) => string }} Column a column of a list */
@@ -3285,12 +2980,12 @@ function showFrame(to) {
   $(\"nav\").setAttribute(\"aria-label\", say.nav);
   showFoot();
   const isIn = key() !== null;
-  const places = [[\"/\", say.start], [\"/files\", say.cards], [\"/left\", say.left], [`/month/${thisMonth()}`, say.monthAll],
+  const places = [[\"/\", say.start], [\"/files\", say.cards], [\"/left\", say.left], [`/month/${thisMonth()}`, say.wholeMonth],
     [\"/people\", say.people], [\"/inspection\", say.inspection]];
   const isAt = (where) => (where === \"/\" ? to === \"/\" : to.startsWith(where.startsWith(\"/month\") ? \"/month\" : where));
   $(\"nav\").replaceChildren(...(isIn ? places.map(([where, text]) => link(where, text, { \"aria-current\": isAt(where) ? \"page\" : null }))
     : []));
-  const change = (language) => { speak(language); render(); };
+  const change = (language) => busy(speak(language)).then(() => render(), (fault) => render(notice(\"bad\", sentenceOf(fault))));
   const select = languageField(languageNow(), change, { id: \"language\", class: \"small\", \"aria-label\": say.language });
   $(\"tools\").replaceChildren(select, ...(isIn ? [button(say.logOut, leave, { class: \"small\", id: \"log-out\" })] : []));
 }
@@ -3314,22 +3009,12 @@ async function compareVersion(signal) {
 /** @type {Set<string>} the modules that were loaded */
 const loaded = new Set();
 
-const MODULE = \"module\"; // of a problem: what couldn't be loaded
-/** @type {(name: string) => Promise<any>} the module of a page */
-async function moduleOf(name) {
-  try {
-    return await import(`./${name}.js`);
-  } catch (fault) {
-    throw fault instanceof TypeError ? new Problem(\"noConnection\", MODULE) : fault;
-  }
-}
-
 /** The content of the page at an address.
  * @type {(to: string, signal: AbortSignal, again: (notice?: Node) => void) => Promise<Content>} */
 async function contentOf(to, signal, again) {
   const found = PAGES.find(([one]) => one.test(to));
   if (!found) return [head(say.noPage), h(\"p\", {}, link(\"/\", say.start))];
-  const module = await moduleOf(found[1]);
+  const module = await moduleAt(`/office/${found[1]}.js`);
   return module.page({ signal, args: found[0].exec(to).slice(1), again });
 }
 
@@ -3423,76 +3108,6 @@ async function leave() {
   logOut(notice(\"good\", say.loggedOut));
 }
 
-// The sentences of the frame, and of several pages
-
-addWords({
-  en: {
-    office: \"Tachograph office\",
-    nav: \"Pages\",
-    cards: \"Card files\",
-    people: \"Manage drivers\",
-    inspection: \"Inspection\",
-    logOut: \"Log out\",
-    skip: \"To the content\",
-    keyLabel: \"Office key\",
-    keyHelp: \"It stays in this tab until you log out or close the tab. Don't let the browser save it on a shared computer.\",
-    signIn: \"Sign in\",
-    print: \"Print\",
-    colDriver: \"Driver\",
-    letter: \"Letter\",
-    gapForm: \"Fill in gaps\",
-    look: \"Look at that day\",
-    monthAll: \"Month\",
-    noPage: \"There is no such page.\",
-    keepIt: \"Cancel\",
-    askAgain: (n) => `Too many requests at once. The page waits ${n} s, and asks again by itself.`,
-    noReply: \"No reply came in time. Nothing that was saved is lost. Try again.\",
-    changing: \"The archive changed while this page was read. Try again.\",
-    pageFault: \"This page has a fault. Nothing was changed.\",
-    idle: \"You are logged out: for half an hour no key was pressed and nothing was clicked.\",
-    leaveUnfinished: \"Files wait to be sent, or hours to be saved. They would be left out.\",
-    otherVersion: \"The program is of another version now.\",
-    noSuchTime: \"This local time doesn't exist: the clock was put forward.\",
-    whichTime: (time) => `${time} comes twice in this night. Which is meant?`,
-    nthTime: (k) => (k === 0 ? \"the first\" : \"the second\"),
-    twoUnknown: \"two weeks: ?\",
-    noDriversYet: \"No driver is registered yet.\",
-  },
-  de: {
-    office: \"Tacho-Büro\",
-    nav: \"Seiten\",
-    cards: \"Kartendateien\",
-    people: \"Fahrer verwalten\",
-    inspection: \"Kontrolle\",
-    logOut: \"Abmelden\",
-    skip: \"Zum Inhalt\",
-    keyLabel: \"Büroschlüssel\",
-    keyHelp: \"Er bleibt in diesem Tab, bis Sie sich abmelden oder den Tab schließen. Speichern Sie ihn an einem gemeinsamen Rechner \"
-      + \"nicht im Browser.\",
-    signIn: \"Anmelden\",
-    print: \"Drucken\",
-    colDriver: \"Fahrer\",
-    letter: \"Brief\",
-    gapForm: \"Lücken ausfüllen\",
-    look: \"Diesen Tag ansehen\",
-    monthAll: \"Monat\",
-    noPage: \"Diese Seite gibt es nicht.\",
-    keepIt: \"Abbrechen\",
-    askAgain: (n) => `Zu viele Anfragen auf einmal. Die Seite wartet ${n} s und fragt dann selbst noch einmal.`,
-    noReply: \"Es kam keine Antwort in der Zeit. Was gespeichert war, ist nicht verloren. Versuchen Sie es noch einmal.\",
-    changing: \"Das Archiv hat sich geändert, während diese Seite gelesen wurde. Versuchen Sie es noch einmal.\",
-    pageFault: \"Diese Seite hat einen Fehler. Nichts wurde geändert.\",
-    idle: \"Sie sind abgemeldet: Eine halbe Stunde lang wurde keine Taste gedrückt und nichts angeklickt.\",
-    leaveUnfinished: \"Dateien warten auf das Senden oder Stunden auf das Speichern. Sie würden ausgelassen.\",
-    otherVersion: \"Das Programm hat jetzt eine andere Version.\",
-    noSuchTime: \"Diese Ortszeit gibt es nicht: Die Uhr wurde vorgestellt.\",
-    whichTime: (time) => `${time} kommt in dieser Nacht zweimal vor. Welches ist gemeint?`,
-    nthTime: (k) => (k === 0 ? \"das erste\" : \"das zweite\"),
-    twoUnknown: \"zwei Wochen: ?\",
-    noDriversYet: \"Noch ist kein Fahrer angemeldet.\",
-  },
-});
-
 let active = Date.now();
 const stay = () => { active = Date.now(); };
 /** @type {() => void} logs out after half an hour without a key press or a click */
@@ -3505,17 +3120,19 @@ document.addEventListener(\"visibilitychange\", leaveIfIdle);
 addEventListener(\"pageshow\", (event) => { if (event.persisted && key() !== null) logOut(notice(\"good\", say.loggedOut)); });
 addEventListener(\"beforeunload\", (event) => { if (unfinished.size > 0) event.preventDefault(); });
 $(\"skip\").addEventListener(\"click\", (event) => { event.preventDefault(); $(\"content\").focus(); });
-addEventListener(\"hashchange\", () => render());
-render();
+ready.then(() => {
+  addEventListener(\"hashchange\", () => render());
+  render();
+});
 "
 }
 
 /// The text at `/office/overview.js`.
 fn office_overview_js() -> &'static str {
     "// A month of all drivers: what each did, how much of it was examined, and each breach.
-import { h } from \"/shared/dom.js\";
+import { h } from \"/shared/page.js\";
 import { DAY, monthStep, now, rangeOf } from \"/shared/time.js\";
-import { addWords, amountText, both, hm, length, monthName, say } from \"/shared/say.js\";
+import { amountText, both, hm, length, monthName, say } from \"/shared/say.js\";
 import { readIncidents, readOverview } from \"/shared/tables.js\";
 import { ask, head, link, listTable, printButton, tool, zoneLine } from \"./office.js\";
 
@@ -3579,43 +3196,24 @@ export async function page({ signal, args: [month] }) {
   return [head(say.monthAllHead(monthName(month)), tool(`/month/${monthStep(month, -1)}`, \"←\", say.monthBefore),
     tool(`/month/${monthStep(month, 1)}`, \"→\", say.monthAfter), printButton()),
     rows.length === 0 ? h(\"p\", { class: \"box\" }, say.noDriversYet)
-      : [monthTable(columnsOf(month, total), rows, { ...total, driver: null, name: say.total }),
+      : [monthTable(columnsOf(month, total), rows, { ...total, driver: null, name: say.wholeMonth }),
         h(\"p\", { class: \"note\" }, say.unseenHelp(length(passed))),
         h(\"p\", { class: \"note\" }, RULES.filter((rule) => total[rule]).map((rule) => `${rule}: ${say.short[rule]}`).join(\" · \"))],
     h(\"h2\", {}, `${say.breaches}${incidents.length ? `: ${incidents.length}` : \"\"}`), breachesOf(incidents, month),
     incidents.length ? h(\"p\", { class: \"note\" }, say.noLooks) : null, zoneLine()];
 }
-
-// The sentences of this page
-
-addWords({
-  en: {
-    monthAllHead: (month) => `All drivers in ${month}`,
-    extent: \"Extent\",
-    unseenHelp: (all) => `“Not examined” counts the minutes of the month that have passed (${all} a driver) and weren't examined. `
-      + `Where nothing is examined no breach is shown.`,
-  },
-  de: {
-    monthAllHead: (month) => `Alle Fahrer im ${month}`,
-    extent: \"Ausmaß\",
-    unseenHelp: (all) => `„Nicht geprüft“ zählt die Minuten des Monats, die vergangen (${all} je Fahrer) und nicht geprüft sind. Wo `
-      + `nichts geprüft ist, wird kein Verstoß gezeigt.`,
-  },
-});
 "
 }
 
 /// The text at `/office/people.js`.
 fn office_people_js() -> &'static str {
     "// The drivers: one or many are added, and a key, base or name is changed. A key is made here, at random, and shown once.
-import { $, h } from \"/shared/dom.js\";
-import { key } from \"/shared/ask.js\";
+import { $, h, key } from \"/shared/page.js\";
 import { DAY, dateOf, minuteOf, now, weekdayOf } from \"/shared/time.js\";
-import { addWords, say, utcDay } from \"/shared/say.js\";
+import { say, utcDay } from \"/shared/say.js\";
 import { cardOf, holderOf, readDrivers } from \"/shared/read.js\";
 import { ask, atLogOut, button, confirmed, head, link, listTable, notice, proposed } from \"./office.js\";
 import { command, field, isUnsure, refusal } from \"./commands.js\";
-import { many } from \"/shared/words.js\";
 
 const LETTERS = \"abcdefghijkmnopqrstuvwxyzABCDEFGHJKLMNPQRSTUVWXYZ23456789\", KEY_LENGTH = 32, BYTES = 256;
 const PLACE = \"tacho.driverspage\", FIRST_DAY = \"2000-01-03\", DAYS_BEFORE = 56, HEAD = [\"driver\", \"holder\", \"key\", \"base\", \"name\"];
@@ -3839,101 +3437,25 @@ const columnsOf = (again) => [
 export async function page({ signal, again }) {
   const people = readDrivers(await ask(\"/drivers\", signal));
   const isOpen = proposed.person !== null || people.length === 0;
-  return [head(say.peopleHead), slipsPart(again),
+  return [head(say.people), slipsPart(again),
     slips.length && !proposed.person ? h(\"p\", { class: \"no-print\" }, link(\"/files\", say.toCards)) : null,
     h(\"details\", { class: \"no-print panel\", open: isOpen }, h(\"summary\", {}, say.addDriver), addForm(people, again),
       h(\"p\", { class: \"note\" }, `${say.base}: ${say.baseHelp}`)),
     h(\"details\", { class: \"no-print panel\", open: manyResults.length > 0 }, h(\"summary\", {}, say.addMany), manyForm(again)),
     people.length ? h(\"div\", { class: \"no-print\" }, listTable(columnsOf(again), people)) : null];
 }
-
-// The sentences of this page
-
-addWords({
-  en: {
-    peopleHead: \"Manage drivers\",
-    card: \"Card\",
-    newKey: \"New key\",
-    setBase: \"Change\",
-    addDriver: \"Add a driver\",
-    fullName: \"Name\",
-    fromFile: \"Take card and name from a card file\",
-    baseHelp: \"A Monday. A later one hides what was before it; the hours stay.\",
-    keySlip: \"Key slip\",
-    slipHead: \"Your hours on the web\",
-    slipText: \"Type this key at\",
-    slipCare: \"Keep it to yourself: whoever has it can read your hours. If somebody else knows it, tell the office, which makes a new \"
-      + \"one; this one then opens nothing.\",
-    keyOnce: \"Shown once. Print it, and give it to the driver in person.\",
-    unsureDone: \"It isn't known whether this was done. Look at the list, and do it again if it wasn't.\",
-    cardForm: \"30 hexadecimal digits, as in a card file\",
-    setName: \"Set name\",
-    setBaseTo: \"Set Monday\",
-    nameDone: (name) => `The name is ${name} now.`,
-    baseDone: (name, day) => `${name} is examined from ${day} on.`,
-    newKeyAsk: (name) => `A new key for ${name}? The present key will open nothing from then on.`,
-    newKeyDone: (name) => `${name} has a new key. Print the slip.`,
-    addedDriver: (name, number) => `${name} is registered as driver ${number}. Print the slip with the key.`,
-    slipWhere: \"Address of the drivers' page\",
-    slipsDone: \"The slips are printed\",
-    slipsDoneAsk: \"The keys won't be shown again.\",
-    toCards: \"Back to the card files\",
-    addMany: \"Add many drivers\",
-    manyHelp: \"A CSV file with a row for each driver under this head; each driver gets a new key:\",
-    manyFile: \"CSV file\",
-    csvHead: (head) => `The first line has to be ${head}, with or without key.`,
-    addedMany: (n, all) => `${n} of ${many(all, \"driver\", \"drivers\")} registered. Print the slips.`,
-    isAdded: \"registered\",
-  },
-  de: {
-    peopleHead: \"Fahrer verwalten\",
-    card: \"Karte\",
-    newKey: \"Neuer Schlüssel\",
-    setBase: \"Ändern\",
-    addDriver: \"Fahrer hinzufügen\",
-    fullName: \"Name\",
-    fromFile: \"Karte und Name aus einer Kartendatei\",
-    baseHelp: \"Ein Montag. Ein späterer verbirgt, was davor war; die Stunden bleiben.\",
-    keySlip: \"Schlüsselzettel\",
-    slipHead: \"Ihre Stunden im Netz\",
-    slipText: \"Geben Sie diesen Schlüssel ein bei\",
-    slipCare: \"Behalten Sie ihn für sich: wer ihn hat, kann Ihre Stunden lesen. Kennt ihn noch jemand, sagen Sie es dem Büro; es macht \"
-      + \"einen neuen, und dieser öffnet dann nichts mehr.\",
-    keyOnce: \"Wird einmal gezeigt. Drucken Sie ihn, und geben Sie ihn dem Fahrer selbst.\",
-    unsureDone: \"Es ist nicht bekannt, ob das geschehen ist. Sehen Sie in der Liste nach, und tun Sie es sonst noch einmal.\",
-    cardForm: \"30 hexadezimale Ziffern, wie in einer Kartendatei\",
-    setName: \"Name setzen\",
-    setBaseTo: \"Montag setzen\",
-    nameDone: (name) => `Der Name ist jetzt ${name}.`,
-    baseDone: (name, day) => `${name} wird ab ${day} geprüft.`,
-    newKeyAsk: (name) => `Ein neuer Schlüssel für ${name}? Der jetzige öffnet dann nichts mehr.`,
-    newKeyDone: (name) => `${name} hat einen neuen Schlüssel. Drucken Sie den Zettel.`,
-    addedDriver: (name, number) => `${name} ist als Fahrer ${number} angemeldet. Drucken Sie den Zettel mit dem Schlüssel.`,
-    slipWhere: \"Adresse der Fahrerseite\",
-    slipsDone: \"Die Zettel sind gedruckt\",
-    slipsDoneAsk: \"Die Schlüssel werden nicht noch einmal gezeigt.\",
-    toCards: \"Zurück zu den Kartendateien\",
-    addMany: \"Viele Fahrer hinzufügen\",
-    manyHelp: \"Eine CSV-Datei mit einer Zeile je Fahrer unter diesem Kopf; jeder Fahrer bekommt einen neuen Schlüssel:\",
-    manyFile: \"CSV-Datei\",
-    csvHead: (head) => `Die erste Zeile muss ${head} sein, mit oder ohne key.`,
-    addedMany: (n, all) => `${n} von ${many(all, \"Fahrer\", \"Fahrern\")} angemeldet. Drucken Sie die Zettel.`,
-    isAdded: \"angemeldet\",
-  },
-});
 "
 }
 
 /// The text at `/office/start.js`.
 fn office_start_js() -> &'static str {
     "// The start page: all drivers, most urgent first. What is left comes later, into cells that are there already.
-import { h } from \"/shared/dom.js\";
+import { h } from \"/shared/page.js\";
 import { DAY, localText, monthStep, now, textOf, tomorrow } from \"/shared/time.js\";
-import { addWords, daysSince, length, localMoment, localTime, monthName, say } from \"/shared/say.js\";
+import { daysSince, length, localMoment, localTime, monthName, say } from \"/shared/say.js\";
 import { readForecast, readStanding } from \"/shared/tables.js\";
 import { leftOf } from \"/shared/read.js\";
 import { ask, button, head, link, listRow, listTable, printButton, thisMonth, zoneLine } from \"./office.js\";
-import { many } from \"/shared/words.js\";
 
 const OVERDUE = 28, SOON = 21, GONE = 56, FEW_DAYS = 10, STALE = 4;
 
@@ -4004,7 +3526,7 @@ function columnsOf(leftCells) {
     { head: say.colFirst, kind: \"first\", cell: (row) => link(row.task.to, h(\"span\", {}, row.task.text),
       { class: `todo ${row.task.level}` }) },
     { head: say.colHeld, kind: \"when\", kindOf: (row) => (row.held === null ? \"quiet\" : \"\"), cell: heldCell },
-    { head: say.colGaps, kind: \"num\", kindOf: dimIf((row) => row.unknown === 0),
+    { head: say.gaps, kind: \"num\", kindOf: dimIf((row) => row.unknown === 0),
       cell: (row) => withMore(row.unknown > 0, () => length(row.unknown), () => say.inPlaces(row.gaps)) },
     breachesOf(\"last_month\", before), breachesOf(\"breaches\", month),
     { head: say.colDebts, kind: \"num\", kindOf: dimIf((row) => row.debts === 0),
@@ -4079,348 +3601,516 @@ export async function page({ signal, again }) {
     : [filters.node, table, count],
   goneList(standing.filter(mayHaveLeft)), zoneLine()];
 }
-
-// The sentences of this page
-
-addWords({
-  en: {
-    startHead: (when) => `Drivers on ${when}`,
-    sumDownload: \"card files due\",
-    sumGaps: \"with unknown hours\",
-    sumBreaches: (month) => `with breaches in ${month.split(\" \")[0]}`,
-    sumDebts: \"with rest to make up\",
-    sumFine: \"with nothing to do\",
-    all: \"drivers\",
-    colFirst: \"First to do\",
-    colGaps: \"Unknown hours\",
-    colBreaches: (month) => `Breaches in ${month}`,
-    colDebts: \"Rest to make up\",
-    colLeft: \"Driving left tomorrow\",
-    ago: (n) => (n === 0 ? \"today\" : n === 1 ? \"yesterday\" : `${n} days ago`),
-    doNever: \"Import the first card file\",
-    doLate: (n) => `Card file ${many(n - 28, \"day\", \"days\")} overdue`,
-    doSoon: (n) => `Card file due in ${many(n, \"day\", \"days\")}`,
-    doGaps: (n) => `Fill in ${n} unknown`,
-    doDebt: (by) => `Rest to be made up before ${by}`,
-    doBreaches: (n) => `Look at ${many(n, \"breach\", \"breaches\")}`,
-    doNothing: \"Nothing to do\",
-    before: \"before\",
-    inPlaces: (n) => many(n, \"gap\", \"gaps\"),
-    showing: (n, all) => `${n} of ${all} drivers`,
-    asOf: (when) => `As of ${when}`,
-    doNone: \"Import a newer card file\",
-    doBreachesIn: (n, month) => `Look at ${many(n, \"breach\", \"breaches\")} in ${month}`,
-    gone: (n, days) => `${many(n, \"driver\", \"drivers\")} without a known hour for ${days} days`,
-    goneWhy: \"The archive doesn't record that a driver has left. Whoever drives again needs a new card file.\",
-  },
-  de: {
-    startHead: (when) => `Fahrer am ${when}`,
-    sumDownload: \"Dateien fällig\",
-    sumGaps: \"mit unbekannten Stunden\",
-    sumBreaches: (month) => `mit Verstößen im ${month.split(\" \")[0]}`,
-    sumDebts: \"mit auszugleichender Ruhezeit\",
-    sumFine: \"ohne Aufgabe\",
-    all: \"Fahrer\",
-    colFirst: \"Zuerst zu tun\",
-    colGaps: \"Unbekannte Stunden\",
-    colBreaches: (month) => `Verstöße im ${month}`,
-    colDebts: \"Auszugleichen\",
-    colLeft: \"Morgen noch Lenkzeit\",
-    ago: (n) => (n === 0 ? \"heute\" : n === 1 ? \"gestern\" : `vor ${n} Tagen`),
-    doNever: \"Erste Kartendatei einlesen\",
-    doLate: (n) => `Kartendatei ${many(n - 28, \"Tag\", \"Tage\")} überfällig`,
-    doSoon: (n) => `Kartendatei fällig in ${many(n, \"Tag\", \"Tagen\")}`,
-    doGaps: (n) => `${n} klären: was war?`,
-    doDebt: (by) => `Ruhezeit auszugleichen vor ${by}`,
-    doBreaches: (n) => `${many(n, \"Verstoß\", \"Verstöße\")} ansehen`,
-    doNothing: \"Nichts zu tun\",
-    before: \"vor\",
-    inPlaces: (n) => many(n, \"Lücke\", \"Lücken\"),
-    showing: (n, all) => `${n} von ${all} Fahrern`,
-    asOf: (when) => `Stand ${when}`,
-    doNone: \"Neuere Kartendatei einlesen\",
-    doBreachesIn: (n, month) => `${many(n, \"Verstoß\", \"Verstöße\")} im ${month} ansehen`,
-    gone: (n, days) => `${many(n, \"Fahrer\", \"Fahrer\")} ohne bekannte Stunde seit ${days} Tagen`,
-    goneWhy: \"Das Archiv hält nicht fest, dass ein Fahrer ausgeschieden ist. Wer wieder fährt, braucht eine neue Kartendatei.\",
-  },
-});
 "
 }
 
-/// The text at `/shared/ask.js`.
-fn shared_ask_js() -> &'static str {
-    "// Requests. The key is in sessionStorage: the browser drops it with the tab.
+/// The text at `/office/words-de.js`.
+fn office_words_de_js() -> &'static str {
+    "// The office's German sentences. words-en.js has the same names in the same order.
+import { many } from \"/shared/words-de.js\";
 
-const PLACE = \"tacho.key\";
+export const WORDS = {
+  // The frame, and what several pages use
+  office: \"Tacho-Büro\",
+  nav: \"Seiten\",
+  skip: \"Zum Inhalt\",
+  start: \"Fahrer heute\",
+  people: \"Fahrer verwalten\",
+  inspection: \"Kontrolle\",
+  keyLabel: \"Büroschlüssel\",
+  keyHelp: \"Er bleibt in diesem Tab, bis Sie sich abmelden oder den Tab schließen. Speichern Sie ihn an einem gemeinsamen Rechner nicht im Browser.\",
+  signIn: \"Anmelden\",
+  print: \"Drucken\",
+  keepIt: \"Abbrechen\",
+  again: \"Aktualisieren\",
+  colDriver: \"Fahrer\",
+  number: \"Nummer\",
+  base: \"Geprüft ab\",
+  entries: \"Einträge\",
+  letter: \"Brief\",
+  gapForm: \"Lücken ausfüllen\",
+  look: \"Diesen Tag ansehen\",
+  noDriversYet: \"Noch ist kein Fahrer angemeldet.\",
+  noSuchTime: \"Diese Ortszeit gibt es nicht: Die Uhr wurde vorgestellt.\",
+  whichTime: (time) => `${time} kommt in dieser Nacht zweimal vor. Welches ist gemeint?`,
+  nthTime: (k) => (k === 0 ? \"das erste\" : \"das zweite\"),
+  twoUnknown: \"zwei Wochen: ?\",
 
-/** The form of a key. A text of another form isn't sent. */
-export const KEY_FORM = /^[A-Za-z0-9-]{8,64}$/;
+  // What can go wrong
+  badKey: \"Diesen Schlüssel gibt es nicht. Prüfen Sie ihn.\",
+  isDown: \"Das Archiv ist im Augenblick nicht erreichbar. Was gespeichert war, ist nicht verloren. Versuchen Sie es in einer Minute noch einmal.\",
+  noConnection: \"Der Dienst läuft nicht, oder es gibt keine Verbindung. Was gespeichert war, ist nicht verloren. Fragen Sie den Betreuer des Dienstes (systemctl status tacho).\",
+  unreadable: \"Das Archiv hat etwas geantwortet, was diese Seite nicht lesen kann; sie zeigt nichts davon. Programm und Seite sind vielleicht von zwei Versionen.\",
+  stopped: \"Angehalten. Nichts wurde geändert.\",
+  noPage: \"Diese Seite gibt es nicht.\",
+  askAgain: (n) => `Zu viele Anfragen auf einmal. Die Seite wartet ${n} s und fragt dann selbst noch einmal.`,
+  noReply: \"Es kam keine Antwort in der Zeit. Was gespeichert war, ist nicht verloren. Versuchen Sie es noch einmal.\",
+  changing: \"Das Archiv hat sich geändert, während diese Seite gelesen wurde. Versuchen Sie es noch einmal.\",
+  pageFault: \"Diese Seite hat einen Fehler. Nichts wurde geändert.\",
+  idle: \"Sie sind abgemeldet: Eine halbe Stunde lang wurde keine Taste gedrückt und nichts angeklickt.\",
+  leaveUnfinished: \"Dateien warten auf das Senden oder Stunden auf das Speichern. Sie würden ausgelassen.\",
+  otherVersion: \"Das Programm hat jetzt eine andere Version.\",
 
-/**
- * The key of this tab.
- * @returns {string | null}
- */
-export function key() {
-  return sessionStorage.getItem(PLACE);
-}
+  // What is refused, by its code
+  refusals: {
+    S1: \"Diese Nummer hat ein anderer Fahrer.\",
+    S2: \"Diesen Schlüssel hat ein anderer Fahrer oder das Büro. Versuchen Sie es noch einmal: Es wird ein neuer gemacht.\",
+    S3: \"Ein Fahrer mit dieser Karte ist schon angemeldet.\",
+    S4: \"Es gibt diesen Fahrer nicht.\",
+    S6: \"Das widerspricht dem, was da ist. Nichts wurde aufgenommen. Sehen Sie sich den Tag im Monat des Fahrers an, und die Einträge.\",
+    S7: \"Diesen Eintrag gibt es nicht.\",
+    S8: \"Ein Eintrag davon war schon zurückgezogen. Nichts wurde geändert.\",
+    S9: \"Dieser Tag ist kein Montag.\",
+    S14: \"Für diesen Fahrer ist kein Platz mehr.\",
+    E9: \"Ein Wert hat eine andere Form, als er haben darf.\",
+    E10: \"Der Name oder die Notiz ist zu lang oder hat ein Komma oder ein Anführungszeichen.\",
+    E3: \"Eine Zeit ist nicht lesbar.\",
+    E4: \"Die Zeiten sind nicht in der Reihenfolge.\",
+    Z3: \"Dieses Datum liegt nicht in den Jahren 2000 bis 2099, die gelesen werden.\",
+  },
+  refusedOther: \"Das Archiv hat das abgelehnt, und nichts wurde geändert.\",
 
-/**
- * Keeps a key for this tab.
- * @param {string} value
- */
-export function keep(value) {
-  sessionStorage.setItem(PLACE, value);
-}
+  // Drivers today
+  startHead: (when) => `Fahrer am ${when}`,
+  sumDownload: \"Dateien fällig\",
+  sumGaps: \"mit unbekannten Stunden\",
+  sumBreaches: (month) => `mit Verstößen im ${month.split(\" \")[0]}`,
+  sumDebts: \"mit auszugleichender Ruhezeit\",
+  sumFine: \"ohne Aufgabe\",
+  all: \"Fahrer\",
+  colFirst: \"Zuerst zu tun\",
+  colBreaches: (month) => `Verstöße im ${month}`,
+  colDebts: \"Auszugleichen\",
+  colLeft: \"Morgen noch Lenkzeit\",
+  ago: (n) => (n === 0 ? \"heute\" : n === 1 ? \"gestern\" : `vor ${n} Tagen`),
+  doNever: \"Erste Kartendatei einlesen\",
+  doNone: \"Neuere Kartendatei einlesen\",
+  doLate: (n) => `Kartendatei ${many(n - 28, \"Tag\", \"Tage\")} überfällig`,
+  doSoon: (n) => `Kartendatei fällig in ${many(n, \"Tag\", \"Tagen\")}`,
+  doGaps: (n) => `${n} klären: was war?`,
+  doDebt: (by) => `Ruhezeit auszugleichen vor ${by}`,
+  doBreaches: (n) => `${many(n, \"Verstoß\", \"Verstöße\")} ansehen`,
+  doBreachesIn: (n, month) => `${many(n, \"Verstoß\", \"Verstöße\")} im ${month} ansehen`,
+  doNothing: \"Nichts zu tun\",
+  before: \"vor\",
+  inPlaces: (n) => many(n, \"Lücke\", \"Lücken\"),
+  showing: (n, all) => `${n} von ${all} Fahrern`,
+  asOf: (when) => `Stand ${when}`,
+  gone: (n, days) => `${many(n, \"Fahrer\", \"Fahrer\")} ohne bekannte Stunde seit ${days} Tagen`,
+  goneWhy: \"Das Archiv hält nicht fest, dass ein Fahrer ausgeschieden ist. Wer wieder fährt, braucht eine neue Kartendatei.\",
 
-/** Drops the key. */
-export function forget() {
-  sessionStorage.removeItem(PLACE);
-}
+  // Card files
+  cardsHelp: \"Dateien von Fahrerkarten (.ddd, .c1b, .tgd, .esm), je höchstens 262.144 Bytes. Signaturen werden nicht geprüft. Behalten Sie die Dateien: das Archiv behält nur, was etwas Neues hat.\",
+  drop: \"Kartendateien hierher ziehen, oder wählen\",
+  choose: \"Dateien wählen\",
+  stop: \"Anhalten\",
+  goOn: \"Weiter\",
+  clearList: \"Liste leeren\",
+  sent: (n, all) => `${n} von ${all} gesendet`,
+  counted: (added, same, others) => `${added} aufgenommen, ${same} ohne Neues, ${others} nicht aufgenommen`,
+  stoppedFiles: (n) => `Angehalten: ${many(n, \"Datei wartet\", \"Dateien warten\")}.`,
+  waiting: (name) => `${name}: wartet`,
+  sending: (name) => `${name}: wird gesendet …`,
+  added: (name, who, k) => `${name}: bei ${who} aufgenommen als Datei ${k}.`,
+  repeated: (name, who) => `${name}: nichts Neues für ${who}. Behalten Sie die Datei: das Archiv tut es nicht.`,
+  unknownCard: (name, card) => `${name}: die Karte eines Fahrers, der nicht angemeldet ist${card ? ` (${card})` : \"\"}. Nichts wurde aufgenommen.`,
+  register: \"Diesen Fahrer anmelden\",
+  contradicts: (name, at) => `${name}: widerspricht dem, was für ${at} da ist. Nichts wurde aufgenommen. Entweder ist ein Eintrag von Hand falsch, oder zwei Dateien der Karte unterscheiden sich.`,
+  generations: (name) => `${name}: die zwei Generationen der Karte widersprechen sich. Nichts wurde aufgenommen.`,
+  tryPart: { first: \"Nur die erste Generation lesen\", second: \"Nur die zweite Generation lesen\" },
+  noCard: (name) => `${name}: keine Datei einer Fahrerkarte.`,
+  noCards: (n) => `${many(n, \"andere Datei\", \"andere Dateien\")} in den Ordnern: dem Namen nach keine Kartendateien, nicht gesendet.`,
+  broken: (name) => `${name}: keine Datei einer Fahrerkarte, oder beschädigt. Nichts wurde aufgenommen.`,
+  tooLarge: (name) => `${name}: zu groß (höchstens 262.144 Bytes). Nicht gesendet.`,
+  refused: (name, line) => `${name}: abgelehnt (${line}). Nichts wurde aufgenommen.`,
+  unsure: (name) => `${name}: unklar, ob sie aufgenommen wurde. Senden Sie sie noch einmal: wenn ja, bringt sie nichts Neues.`,
+  sendAgain: \"Noch einmal senden\",
 
-/** A problem that the page tells: the name of a sentence (words.js), and the values that go into it. */
-export class Problem extends Error {
-  /**
-   * @param {string} name
-   * @param {...(string | number)} values
-   */
-  constructor(name, ...values) {
-    super(name);
-    this.name = name;
-    this.values = values;
-  }
-}
+  // A driver's month
+  source: \"Quelle\",
+  entriesOf: (n) => many(n, \"Eintrag von Hand\", \"Einträge von Hand\"),
 
-/** The sentences on statuses that aren't from a command. */
-const TOLD = new Map([[403, \"badKey\"], [429, \"tooOften\"], [502, \"isDown\"], [503, \"isDown\"], [504, \"isDown\"]]);
+  // The month of all drivers
+  monthAllHead: (month) => `Alle Fahrer im ${month}`,
+  extent: \"Ausmaß\",
+  breach: \"Verstoß\",
+  unseenHelp: (all) => `„Nicht geprüft“ zählt die Minuten des Monats, die vergangen (${all} je Fahrer) und nicht geprüft sind. Wo nichts geprüft ist, wird kein Verstoß gezeigt.`,
 
-let asking = 0;
-/** @type {Array<(count: number) => void>} */
-const watchers = [];
+  // What is left
+  coming: \"Das kommt, auch wenn nicht gefahren wird:\",
+  youngHelp: (d) => `Was vor ${d} gefahren wurde, ist nicht bekannt; deshalb steht hier nichts von zwei Wochen.`,
+  leftCrew: \"Nichts ist zu sagen: Am Ende dessen, was bekannt ist, steht ein zweiter Fahrer.\",
+  young: (d) => `bekannt ab ${d}`,
+  binds: { day: \"\", week: \"Woche\", two: \"zwei Wochen\" },
+  leftCols: [\"Fahrer\", \"Bekannt bis\", \"Lenken an diesem Tag\", \"Erste Unterbrechung nach\", \"Tägliche Ruhe beginnt bis\", \"Noch in der Woche\", \"Noch in zwei Wochen\", \"Wochenruhe beginnt bis\", \"Verbraucht: kurze Ruhen, lange Tage\"],
+  notBinding: \"wird diese Woche nicht erreicht\",
+  leftUntold: \"Von diesen Fahrern ist nichts zu sagen\",
 
-/**
- * Has a function told how many requests are waiting, whenever that changes.
- * @param {(count: number) => void} tell
- */
-export function watch(tell) {
-  watchers.push(tell);
-}
+  // Manage drivers
+  card: \"Karte\",
+  fullName: \"Name\",
+  fromFile: \"Karte und Name aus einer Kartendatei\",
+  cardForm: \"30 hexadezimale Ziffern, wie in einer Kartendatei\",
+  addDriver: \"Fahrer hinzufügen\",
+  addedDriver: (name, number) => `${name} ist als Fahrer ${number} angemeldet. Drucken Sie den Zettel mit dem Schlüssel.`,
+  addMany: \"Viele Fahrer hinzufügen\",
+  manyHelp: \"Eine CSV-Datei mit einer Zeile je Fahrer unter diesem Kopf; jeder Fahrer bekommt einen neuen Schlüssel:\",
+  manyFile: \"CSV-Datei\",
+  csvHead: (head) => `Die erste Zeile muss ${head} sein, mit oder ohne key.`,
+  addedMany: (n, all) => `${n} von ${many(all, \"Fahrer\", \"Fahrern\")} angemeldet. Drucken Sie die Zettel.`,
+  isAdded: \"angemeldet\",
+  setName: \"Name setzen\",
+  nameDone: (name) => `Der Name ist jetzt ${name}.`,
+  setBase: \"Ändern\",
+  setBaseTo: \"Montag setzen\",
+  baseHelp: \"Ein Montag. Ein späterer verbirgt, was davor war; die Stunden bleiben.\",
+  baseDone: (name, day) => `${name} wird ab ${day} geprüft.`,
+  newKey: \"Neuer Schlüssel\",
+  newKeyAsk: (name) => `Ein neuer Schlüssel für ${name}? Der jetzige öffnet dann nichts mehr.`,
+  newKeyDone: (name) => `${name} hat einen neuen Schlüssel. Drucken Sie den Zettel.`,
+  keyOnce: \"Wird einmal gezeigt. Drucken Sie ihn, und geben Sie ihn dem Fahrer selbst.\",
+  keySlip: \"Schlüsselzettel\",
+  slipHead: \"Ihre Stunden im Netz\",
+  slipText: \"Geben Sie diesen Schlüssel ein bei\",
+  slipCare: \"Behalten Sie ihn für sich: wer ihn hat, kann Ihre Stunden lesen. Kennt ihn noch jemand, sagen Sie es dem Büro; es macht einen neuen, und dieser öffnet dann nichts mehr.\",
+  slipWhere: \"Adresse der Fahrerseite\",
+  slipsDone: \"Die Zettel sind gedruckt\",
+  slipsDoneAsk: \"Die Schlüssel werden nicht noch einmal gezeigt.\",
+  toCards: \"Zurück zu den Kartendateien\",
+  unsureDone: \"Es ist nicht bekannt, ob das geschehen ist. Sehen Sie in der Liste nach, und tun Sie es sonst noch einmal.\",
 
-/**
- * Counts the requests that are waiting.
- * @param {number} by
- */
-function change(by) {
-  asking += by;
-  watchers.forEach((tell) => tell(asking));
-}
+  // An inspection
+  periodFrom: \"Von (UTC)\",
+  periodTo: \"Bis (UTC)\",
+  badPeriod: \"Der Zeitraum muss 1 bis 366 Tage haben.\",
+  give: \"Was Sie geben müssen\",
+  help: \"Was Ihnen helfen kann\",
+  helpText: \"Die Monate des Zeitraums, zum Ansehen und Drucken:\",
+  makeTar: \"Als eine Datei sichern (.tar)\",
+  tarHelp: (name) => `Gespeichert wird ${name}. Eine Kartendatei darin ist Byte für Byte die eingelesene.`,
+  fileName: \"Datei\",
+  size: \"Bytes\",
+  covers: \"Zeitraum\",
+  entriesFile: \"Einträge von Hand\",
+  knownOf: (n, all) => `${n} von ${all} Tagen ohne Lücke bekannt`,
+  notHeld: \"In diesem Zeitraum nicht bekannt\",
+  missing: \"Was nicht in diesem Archiv ist\",
+  inspMissing: [\"Kartendateien, die nichts Neues hatten oder abgelehnt wurden: das Büro behält sie selbst\", \"Dateien der Fahrzeugeinheiten\", \"Ausdrucke und handschriftliche Aufzeichnungen\", \"die Liste der Fahrer und Fahrzeuge\", \"Dienstpläne und Aufzeichnungen der Arbeitszeit\"],
 
-/**
- * What a request has beside its path. `key` is another key than that of the tab. `wait` is called before a reading is sent again.
- * @typedef {{method?: string, body?: BodyInit, signal?: AbortSignal, key?: string, wait?: (seconds: number) => void}} Options
- */
+  // A letter
+  from: \"Absender\",
+  senderHelp: \"Bleibt nur in diesem Browser.\",
+  letterLanguage: \"Sprache des Briefs\",
+  date2: \"Datum\",
+  cardNo: \"Fahrerkarte\",
+  letterHead: (month) => `Ihre Lenk- und Ruhezeiten im ${month}`,
+  dear: (name) => `Guten Tag ${name},`,
+  letterIntro: (n, month) => `wir haben die Stunden, die Ihre Fahrerkarte im ${month} aufgezeichnet hat, nach der Verordnung (EG) Nr. 561/2006 geprüft. ${n === 1 ? \"Zu einem Punkt\" : `Zu ${n} Punkten`} bitten wir Sie um Antwort:`,
+  letterNone: \"In diesem Monat gibt es keinen abgeschlossenen Verstoß, über den zu schreiben wäre.\",
+  letterOpen: (n) => `${n === 1 ? \"Ein Verstoß ist\" : `${n} Verstöße sind`} ausgelassen: der Beleg ist noch nicht vollständig. Lesen Sie zuerst die nächste Kartendatei ein.`,
+  letterAsk: \"Ist hier etwas falsch, oder fehlt etwas? Dann sagen Sie es uns bitte, und bringen Sie Ihren Ausdruck oder Ihre Notiz von diesem Tag mit. Sonst sagen Sie uns bitte, wie es dazu kam. Bitte antworten Sie bis\",
+  letterInstruct: \"Wir weisen Sie an, diese Grenzen einzuhalten. Ist eine Fahrt innerhalb der Grenzen nicht zu schaffen, sagen Sie es uns, bevor Sie eine überschreiten.\",
+  letterFiles: (files, program) => `Quelle: Kartendateien ${files}. Geprüft mit ${program}. Zeiten in UTC wie auf der Karte, Ortszeit in Klammern.`,
+  letterHand: \"In diesem Monat von Hand eingetragen und nicht von der Karte:\",
+  answer: \"Antwort des Fahrers\",
+  signed: \"Ort, Datum, Unterschrift\",
+  forOffice: \"Für das Unternehmen\",
+  forDriver: \"Fahrer: gelesen und beantwortet\",
 
-/**
- * A request and its reply.
- * @param {string} path
- * @param {Options} options
- * @param {(reply: Response) => Promise<T>} take what takes the body
- * @template T
- * @returns {Promise<T>}
- */
-async function asked(path, { method = \"GET\", body, signal, key: other }, take) {
-  change(1);
-  try {
-    const headers = { \"x-key\": other ?? key() ?? \"\" };
-    return await take(await fetch(path, { method, body, signal, headers, cache: \"no-store\", credentials: \"omit\", redirect: \"error\" }));
-  } catch (fault) {
-    throw /** @type {Error} */ (fault).name === \"AbortError\" ? fault : new Problem(\"noConnection\");
-  } finally {
-    change(-1);
-  }
-}
+  // Gaps
+  gapsHelp: \"Zeiten sind Ortszeit. Schreiben Sie nur, was ein Papier sagt (Dienstplan, Urlaubsliste, Ausdruck), und nennen Sie das Papier.\",
+  neverIllness: \"Eine Notiz kann nicht gelöscht werden, und der Fahrer kann sie lesen. Schreiben Sie nie eine Krankheit hinein: „abwesend nach Liste 7“ genügt.\",
+  workHelp: \"Auto oder Transporter fahren, Werkstatt, Kurs, Laden: andere Arbeit. Urlaub, Krankheit, Freizeit: Ruhe.\",
+  noGapsAtAll: \"Vom Beginn der Prüfung bis zum Ende dessen, was bekannt ist, gibt es keine Lücken.\",
+  what: \"Was war\",
+  noteLabel: \"Papier (Notiz)\",
+  author: \"Ihr Name\",
+  papers: [\"Dienstplan\", \"Urlaubsliste\", \"Ausdruck\", \"Werkstattauftrag\"],
+  textTooLong: (n) => `Höchstens ${n} Bytes.`,
+  textSigns: \"Kein Komma, kein Anführungszeichen und kein Steuerzeichen.\",
+  skipRow: \"offen lassen\",
+  split: \"Teilen\",
+  splitAt: \"Teilen um (Ortszeit)\",
+  splitWithin: \"Wählen Sie eine Zeit innerhalb dieser Stunden.\",
+  splitDays: (n) => `Nach Tagen teilen (${n})`,
+  rows: (n) => `${many(n, \"Zeile wird\", \"Zeilen werden\")} gespeichert.`,
+  save: \"Speichern\",
+  saving: \"Wird gespeichert …\",
+  savedEntries: (a, b) => (a === b ? `Gespeichert als Eintrag ${a}.` : `Gespeichert als Einträge ${a} bis ${b}.`),
+  notSaved: \"Nichts wurde gespeichert. Versuchen Sie es noch einmal.\",
+  looking: \"Die Verbindung brach ab. Es wird nachgesehen, was da ist …\",
+  lookAgain: \"Noch einmal nachsehen\",
+  otherEntries: \"Die Verbindung brach ab, und inzwischen kamen andere Einträge hinzu. Das Formular zeigt, was noch unbekannt ist; die Einträge zeigen das Übrige.\",
+  unsureEntries: \"Es ist nicht bekannt, ob das gespeichert wurde. Bevor das bekannt ist, kann nichts gesendet werden.\",
 
-/**
- * A request, and the status and text of its reply. Only a plain text or CSV is a reply of the archive, and its text is kept; other texts
- * are of servers between.
- * @param {string} path
- * @param {Options} [options]
- * @returns {Promise<{status: number, text: string}>}
- */
-export function send(path, options = {}) {
-  return asked(path, options, async (reply) => {
-    const text = await reply.text();
-    const isOurs = /^text\\/(plain|csv)\\b/.test(reply.headers.get(\"content-type\") ?? \"\");
-    return { status: reply.status, text: isOurs ? text : \"\" };
-  });
-}
-
-/**
- * The problem of a reply that isn't what was asked for.
- * @param {number} status
- * @param {string} text
- * @returns {Problem}
- */
-function problemOf(status, text) {
-  if (text === \"S4 unknown driver\\n\") {
-    return new Problem(\"noDriver\");
-  }
-  const name = TOLD.get(status);
-  return name === undefined ? new Problem(\"otherReply\", status, text.trim()) : new Problem(name);
-}
-
-/**
- * Waits, unless it is given up.
- * @param {number} seconds
- * @param {AbortSignal} [signal]
- * @returns {Promise<void>}
- */
-function pause(seconds, signal) {
-  return new Promise((done, giveUp) => {
-    const timer = setTimeout(done, 1000 * seconds);
-    signal?.addEventListener(\"abort\", () => {
-      clearTimeout(timer);
-      giveUp(signal.reason);
-    }, { once: true });
-  });
-}
-
-/** The seconds of each wait after 429, one after the other. */
-const WAITS = [2, 4, 8, 16, 30, 30, 30];
-
-/**
- * What a request gives. With `wait` it is sent again after 429, since nothing was asked of the archive then; each time later than before.
- * @param {Options} options
- * @param {() => Promise<T>} ask throws a Problem `tooOften` after 429
- * @template T
- * @returns {Promise<T>}
- */
-async function patiently({ signal, wait }, ask) {
-  for (const seconds of WAITS) {
-    try {
-      return await ask();
-    } catch (fault) {
-      if (wait === undefined || !(fault instanceof Problem) || fault.name !== \"tooOften\") {
-        throw fault;
-      }
-      wait(seconds);
-      await pause(seconds, signal);
-    }
-  }
-  return ask();
-}
-
-/**
- * The text of a reading.
- * @param {string} path
- * @param {Options} [options]
- * @returns {Promise<string>}
- */
-export function reading(path, options = {}) {
-  return patiently(options, async () => {
-    const { status, text } = await send(path, options);
-    if (status === 200) {
-      return text;
-    }
-    throw problemOf(status, text);
-  });
-}
-
-/**
- * The bytes of a card file, or of a handover.
- * @param {string} path
- * @param {Options} [options]
- * @returns {Promise<Blob>}
- */
-export function bytes(path, options = {}) {
-  return patiently(options, () => asked(path, options, async (reply) => {
-    if (reply.status === 200) {
-      return reply.blob();
-    }
-    throw problemOf(reply.status, \"\");
-  }));
-}
+  // Entries
+  entriesHelp: \"Stunden, die von Hand eingetragen wurden. Ein zurückgezogener Eintrag bleibt in der Liste und gibt nichts.\",
+  noEntries: \"Es gibt keine Einträge.\",
+  fromTo: \"Von, bis\",
+  state: \"Stand\",
+  withdraw: \"Zurückziehen\",
+  withdrawRange: \"Alle diese zurückziehen\",
+  firstEntry: \"Von Eintrag\",
+  lastEntry: \"Bis Eintrag\",
+  withdrawAsk: (a, b) => (a === b ? `Eintrag ${a} zurückziehen? Das ist endgültig; die Stunden können neu eingetragen werden.` : `Die ${b - a + 1} Einträge von ${a} bis ${b} zurückziehen? Das ist endgültig; die Stunden können neu eingetragen werden.`),
+  withdrawn: (a, b) => (a === b ? `Eintrag ${a} ist zurückgezogen.` : `Die Einträge ${a} bis ${b} sind zurückgezogen.`),
+  unsureWithdrawn: \"Die Verbindung brach ab. Die Liste zeigt, was jetzt zurückgezogen ist.\",
+};
 "
 }
 
-/// The text at `/shared/dom.js`.
-fn shared_dom_js() -> &'static str {
-    "// Elements. A string becomes a text, never markup: no reply of the server is ever read as HTML.
+/// The text at `/office/words-en.js`.
+fn office_words_en_js() -> &'static str {
+    "// The office's English sentences. words-de.js has the same names in the same order.
+import { many } from \"/shared/words-en.js\";
 
-const SVG = \"http://www.w3.org/2000/svg\";
+export const WORDS = {
+  // The frame, and what several pages use
+  office: \"Tachograph office\",
+  nav: \"Pages\",
+  skip: \"To the content\",
+  start: \"Drivers today\",
+  people: \"Manage drivers\",
+  inspection: \"Inspection\",
+  keyLabel: \"Office key\",
+  keyHelp: \"It stays in this tab until you log out or close the tab. Don't let the browser save it on a shared computer.\",
+  signIn: \"Sign in\",
+  print: \"Print\",
+  keepIt: \"Cancel\",
+  again: \"Refresh\",
+  colDriver: \"Driver\",
+  number: \"Number\",
+  base: \"Examined from\",
+  entries: \"Entries\",
+  letter: \"Letter\",
+  gapForm: \"Fill in gaps\",
+  look: \"Look at that day\",
+  noDriversYet: \"No driver is registered yet.\",
+  noSuchTime: \"This local time doesn't exist: the clock was put forward.\",
+  whichTime: (time) => `${time} comes twice in this night. Which is meant?`,
+  nthTime: (k) => (k === 0 ? \"the first\" : \"the second\"),
+  twoUnknown: \"two weeks: ?\",
 
-/**
- * What an element can have in it. Lists may be nested; null, undefined and false are left out, so that a part can be left out in place.
- * @typedef {Node | string | null | undefined | false | Child[]} Child
- */
+  // What can go wrong
+  badKey: \"This key isn't known. Check it, or ask whoever keeps the service.\",
+  isDown: \"The archive can't be reached at the moment. Nothing that was saved is lost. Try again in a minute; if that doesn't help, ask whoever keeps the service.\",
+  noConnection: \"The service isn't running, or there is no connection to it. Nothing that was saved is lost. Ask whoever keeps the service (systemctl status tacho).\",
+  unreadable: \"The archive gave a reply that this page can't read, so it shows none of it. Program and page may be of two versions.\",
+  stopped: \"Stopped. Nothing was changed.\",
+  noPage: \"There is no such page.\",
+  askAgain: (n) => `Too many requests at once. The page waits ${n} s, and asks again by itself.`,
+  noReply: \"No reply came in time. Nothing that was saved is lost. Try again.\",
+  changing: \"The archive changed while this page was read. Try again.\",
+  pageFault: \"This page has a fault. Nothing was changed.\",
+  idle: \"You are logged out: for half an hour no key was pressed and nothing was clicked.\",
+  leaveUnfinished: \"Files wait to be sent, or hours to be saved. They would be left out.\",
+  otherVersion: \"The program is of another version now.\",
 
-/**
- * The attributes of an element by their names. `true` is an attribute without a value; null, undefined and false are none. A name that
- * begins with `on` is an event, and its value the function that gets it.
- * @typedef {Record<string, string | number | boolean | null | undefined | ((event: any) => void)>} Attributes
- */
+  // What is refused, by its code
+  refusals: {
+    S1: \"Another driver has this number.\",
+    S2: \"Another driver, or the office, has this key. Try again: a new key is made.\",
+    S3: \"A driver with this card is registered already.\",
+    S4: \"There is no such driver.\",
+    S6: \"This contradicts what is held. Nothing was taken. Look at the day in the driver's month, and at the entries.\",
+    S7: \"There is no such entry.\",
+    S8: \"An entry of these was withdrawn before. Nothing was changed.\",
+    S9: \"This day isn't a Monday.\",
+    S14: \"The driver has no room for more.\",
+    E9: \"A value has another form than it may have.\",
+    E10: \"The name or the note is too long, or has a comma or a double quote.\",
+    E3: \"A time can't be read.\",
+    E4: \"The times aren't in order.\",
+    Z3: \"This date is out of the range that is read, 2000 to 2099.\",
+  },
+  refusedOther: \"The archive refused this, and nothing was changed.\",
 
-/**
- * An element with attributes and children.
- * @template {Element} T
- * @param {T} made
- * @param {Attributes | null} attributes
- * @param {Child[]} children
- * @returns {T}
- */
-function filled(made, attributes, children) {
-  for (const [name, value] of Object.entries(attributes ?? {})) {
-    if (value === null || value === undefined || value === false) {
-      continue;
-    }
-    if (typeof value === \"function\") {
-      made.addEventListener(name.slice(2), value);
-    } else {
-      made.setAttribute(name, value === true ? \"\" : String(value));
-    }
-  }
-  made.append(...listed(children));
-  return made;
-}
+  // Drivers today
+  startHead: (when) => `Drivers on ${when}`,
+  sumDownload: \"card files due\",
+  sumGaps: \"with unknown hours\",
+  sumBreaches: (month) => `with breaches in ${month.split(\" \")[0]}`,
+  sumDebts: \"with rest to make up\",
+  sumFine: \"with nothing to do\",
+  all: \"drivers\",
+  colFirst: \"First to do\",
+  colBreaches: (month) => `Breaches in ${month}`,
+  colDebts: \"Rest to make up\",
+  colLeft: \"Driving left tomorrow\",
+  ago: (n) => (n === 0 ? \"today\" : n === 1 ? \"yesterday\" : `${n} days ago`),
+  doNever: \"Import the first card file\",
+  doNone: \"Import a newer card file\",
+  doLate: (n) => `Card file ${many(n - 28, \"day\", \"days\")} overdue`,
+  doSoon: (n) => `Card file due in ${many(n, \"day\", \"days\")}`,
+  doGaps: (n) => `Fill in ${n} unknown`,
+  doDebt: (by) => `Rest to be made up before ${by}`,
+  doBreaches: (n) => `Look at ${many(n, \"breach\", \"breaches\")}`,
+  doBreachesIn: (n, month) => `Look at ${many(n, \"breach\", \"breaches\")} in ${month}`,
+  doNothing: \"Nothing to do\",
+  before: \"before\",
+  inPlaces: (n) => many(n, \"gap\", \"gaps\"),
+  showing: (n, all) => `${n} of ${all} drivers`,
+  asOf: (when) => `As of ${when}`,
+  gone: (n, days) => `${many(n, \"driver\", \"drivers\")} without a known hour for ${days} days`,
+  goneWhy: \"The archive doesn't record that a driver has left. Whoever drives again needs a new card file.\",
 
-/**
- * The children as a flat list, without those that are left out.
- * @param {Child[]} children
- * @returns {Array<Node | string>}
- */
-export function listed(children) {
-  return /** @type {any[]} */ (children).flat(Infinity).filter((child) => child !== null && child !== undefined && child !== false);
-}
+  // Card files
+  cardsHelp: \"Files of driver cards (.ddd, .c1b, .tgd, .esm), up to 262,144 bytes each. Signatures aren't verified. Keep the files: the archive keeps only those with something new.\",
+  drop: \"Drop card files here, or choose them\",
+  choose: \"Choose files\",
+  stop: \"Stop\",
+  goOn: \"Go on\",
+  clearList: \"Clear the list\",
+  sent: (n, all) => `${n} of ${all} sent`,
+  counted: (added, same, others) => `${added} added, ${same} with nothing new, ${others} not taken`,
+  stoppedFiles: (n) => `Stopped: ${many(n, \"file waits\", \"files wait\")}.`,
+  waiting: (name) => `${name}: waiting`,
+  sending: (name) => `${name}: being sent …`,
+  added: (name, who, k) => `${name}: added to ${who} as file ${k}.`,
+  repeated: (name, who) => `${name}: nothing new for ${who}. Keep the file: the archive doesn't.`,
+  unknownCard: (name, card) => `${name}: the card of a driver who isn't registered${card ? ` (${card})` : \"\"}. Nothing was taken.`,
+  register: \"Register this driver\",
+  contradicts: (name, at) => `${name}: contradicts what is held for ${at}. Nothing was taken. Either hours entered by hand are wrong, or two files of the card differ.`,
+  generations: (name) => `${name}: the two generations of this card contradict each other. Nothing was taken.`,
+  tryPart: { first: \"Read the first generation alone\", second: \"Read the second generation alone\" },
+  noCard: (name) => `${name}: no file of a driver card.`,
+  noCards: (n) => `${many(n, \"other file\", \"other files\")} in the folders: no card files by their names, and not sent.`,
+  broken: (name) => `${name}: no file of a driver card, or damaged. Nothing was taken.`,
+  tooLarge: (name) => `${name}: too large (at most 262,144 bytes). It wasn't sent.`,
+  refused: (name, line) => `${name}: refused (${line}). Nothing was taken.`,
+  unsure: (name) => `${name}: it isn't known whether it was taken. Send it again: if it was, it has nothing new.`,
+  sendAgain: \"Send again\",
 
-/**
- * A new element of HTML.
- * @param {string} name
- * @param {Attributes | null} [attributes]
- * @param {...Child} children
- * @returns {any} the element; its type depends on the name
- */
-export function h(name, attributes = {}, ...children) {
-  return filled(document.createElement(name), attributes, children);
-}
+  // A driver's month
+  source: \"Source\",
+  entriesOf: (n) => many(n, \"entry by hand\", \"entries by hand\"),
 
-/**
- * A new element of SVG.
- * @param {string} name
- * @param {Attributes | null} [attributes]
- * @param {...Child} children
- * @returns {SVGElement}
- */
-export function svg(name, attributes = {}, ...children) {
-  return filled(document.createElementNS(SVG, name), attributes, children);
-}
+  // The month of all drivers
+  monthAllHead: (month) => `All drivers in ${month}`,
+  extent: \"Extent\",
+  breach: \"Breach\",
+  unseenHelp: (all) => `“Not examined” counts the minutes of the month that have passed (${all} a driver) and weren't examined. Where nothing is examined no breach is shown.`,
 
-/**
- * The element with an id.
- * @param {string} id
- * @returns {any} the element, or null
- */
-export function $(id) {
-  return document.getElementById(id);
-}
+  // What is left
+  coming: \"This comes even if nothing is driven:\",
+  youngHelp: (d) => `What was driven before ${d} isn't known, so nothing is said of two weeks.`,
+  leftCrew: \"Nothing can be said: a second driver is recorded at the end of what is known.\",
+  young: (d) => `known from ${d}`,
+  binds: { day: \"\", week: \"week\", two: \"two weeks\" },
+  leftCols: [\"Driver\", \"Known to\", \"Driving that day\", \"First break after\", \"Daily rest begins by\", \"Left in the week\", \"Left in two weeks\", \"Weekly rest begins by\", \"Used: short rests, long days\"],
+  notBinding: \"isn't reached this week\",
+  leftUntold: \"Nothing can be said of these drivers\",
+
+  // Manage drivers
+  card: \"Card\",
+  fullName: \"Name\",
+  fromFile: \"Take card and name from a card file\",
+  cardForm: \"30 hexadecimal digits, as in a card file\",
+  addDriver: \"Add a driver\",
+  addedDriver: (name, number) => `${name} is registered as driver ${number}. Print the slip with the key.`,
+  addMany: \"Add many drivers\",
+  manyHelp: \"A CSV file with a row for each driver under this head; each driver gets a new key:\",
+  manyFile: \"CSV file\",
+  csvHead: (head) => `The first line has to be ${head}, with or without key.`,
+  addedMany: (n, all) => `${n} of ${many(all, \"driver\", \"drivers\")} registered. Print the slips.`,
+  isAdded: \"registered\",
+  setName: \"Set name\",
+  nameDone: (name) => `The name is ${name} now.`,
+  setBase: \"Change\",
+  setBaseTo: \"Set Monday\",
+  baseHelp: \"A Monday. A later one hides what was before it; the hours stay.\",
+  baseDone: (name, day) => `${name} is examined from ${day} on.`,
+  newKey: \"New key\",
+  newKeyAsk: (name) => `A new key for ${name}? The present key will open nothing from then on.`,
+  newKeyDone: (name) => `${name} has a new key. Print the slip.`,
+  keyOnce: \"Shown once. Print it, and give it to the driver in person.\",
+  keySlip: \"Key slip\",
+  slipHead: \"Your hours on the web\",
+  slipText: \"Type this key at\",
+  slipCare: \"Keep it to yourself: whoever has it can read your hours. If somebody else knows it, tell the office, which makes a new one; this one then opens nothing.\",
+  slipWhere: \"Address of the drivers' page\",
+  slipsDone: \"The slips are printed\",
+  slipsDoneAsk: \"The keys won't be shown again.\",
+  toCards: \"Back to the card files\",
+  unsureDone: \"It isn't known whether this was done. Look at the list, and do it again if it wasn't.\",
+
+  // An inspection
+  periodFrom: \"From (UTC)\",
+  periodTo: \"To (UTC)\",
+  badPeriod: \"The period has to have 1 to 366 days.\",
+  give: \"What you have to give\",
+  help: \"What may help you\",
+  helpText: \"The months of the period, to look at and to print:\",
+  makeTar: \"Save as one file (.tar)\",
+  tarHelp: (name) => `It is saved as ${name}. Where it has a card file, it is byte for byte the one that was imported.`,
+  fileName: \"File\",
+  size: \"Bytes\",
+  covers: \"Covers\",
+  entriesFile: \"entries by hand\",
+  knownOf: (n, all) => `${n} of ${all} days known without a gap`,
+  notHeld: \"Not known in this period\",
+  missing: \"What isn't in this archive\",
+  inspMissing: [\"card files that had nothing new or were refused: the office keeps them itself\", \"files of vehicle units\", \"printouts and manual records\", \"the list of drivers and vehicles\", \"rosters and records of working time\"],
+
+  // A letter
+  from: \"Sender\",
+  senderHelp: \"Kept in this browser only.\",
+  letterLanguage: \"Language of the letter\",
+  date2: \"Date\",
+  cardNo: \"Driver card\",
+  letterHead: (month) => `Your driving and rest times in ${month}`,
+  dear: (name) => `Dear ${name},`,
+  letterIntro: (n, month) => `we have checked the hours that your driver card recorded in ${month} against Regulation (EC) No 561/2006. ${n === 1 ? \"One point needs\" : `${n} points need`} your attention:`,
+  letterNone: \"There is no finished breach to write about in this month.\",
+  letterOpen: (n) => `${many(n, \"breach is\", \"breaches are\")} left out: what shows ${n === 1 ? \"it isn't\" : \"them isn't\"} complete yet. Import the next card file first.`,
+  letterAsk: \"Is anything wrong here, or missing? Then please tell us, and bring your printout or note of that day. Otherwise please tell us how it came about. Please answer by\",
+  letterInstruct: \"We instruct you to keep to these limits. If a journey can't be done within them, tell us before you exceed one.\",
+  letterFiles: (files, program) => `Source: card files ${files}. Examined with ${program}. Times in UTC as on the card, local time in brackets.`,
+  letterHand: \"Entered by hand in this month, and not from the card:\",
+  answer: \"Driver's answer\",
+  signed: \"Place, date, signature\",
+  forOffice: \"For the company\",
+  forDriver: \"Driver: read and answered\",
+
+  // Gaps
+  gapsHelp: \"Times are local. Write only what a paper says (roster, leave list, printout), and name the paper.\",
+  neverIllness: \"A note can't be deleted, and the driver can read it. Never write illness into it: “absent by list 7” is enough.\",
+  workHelp: \"Driving a car or van, workshop, course, loading: other work. Leave, illness, free time: rest.\",
+  noGapsAtAll: \"There are no gaps from the base to the end of what is known.\",
+  what: \"What happened\",
+  noteLabel: \"Paper (note)\",
+  author: \"Your name\",
+  papers: [\"roster\", \"leave list\", \"printout\", \"workshop order\"],
+  textTooLong: (n) => `At most ${n} bytes.`,
+  textSigns: \"No comma, no double quote and no control character.\",
+  skipRow: \"leave open\",
+  split: \"Split\",
+  splitAt: \"Split at (local time)\",
+  splitWithin: \"Choose a time within these hours.\",
+  splitDays: (n) => `Split by days (${n})`,
+  rows: (n) => `${many(n, \"row\", \"rows\")} will be saved.`,
+  save: \"Save\",
+  saving: \"Being saved …\",
+  savedEntries: (a, b) => (a === b ? `Saved as entry ${a}.` : `Saved as entries ${a} to ${b}.`),
+  notSaved: \"Nothing was saved. Try again.\",
+  looking: \"The connection broke. Looking at what is there …\",
+  lookAgain: \"Look again\",
+  otherEntries: \"The connection broke, and other entries were added meanwhile. The form shows what is still unknown; the entries show the rest.\",
+  unsureEntries: \"It isn't known whether this was saved. Before that is known, nothing can be sent.\",
+
+  // Entries
+  entriesHelp: \"Hours that were entered by hand. An entry that is withdrawn stays listed, and gives nothing.\",
+  noEntries: \"There are no entries.\",
+  fromTo: \"From, to\",
+  state: \"State\",
+  withdraw: \"Withdraw\",
+  withdrawRange: \"Withdraw all of these\",
+  firstEntry: \"From entry\",
+  lastEntry: \"To entry\",
+  withdrawAsk: (a, b) => (a === b ? `Withdraw entry ${a}? That can't be undone; the hours can be entered again.` : `Withdraw the ${b - a + 1} entries from ${a} to ${b}? That can't be undone; the hours can be entered again.`),
+  withdrawn: (a, b) => (a === b ? `Entry ${a} is withdrawn.` : `Entries ${a} to ${b} are withdrawn.`),
+  unsureWithdrawn: \"The connection broke. The list shows what is withdrawn now.\",
+};
 "
 }
 
@@ -5351,10 +5041,299 @@ summary {
 "
 }
 
+/// The text at `/shared/page.js`.
+fn shared_page_js() -> &'static str {
+    "// Elements, requests and modules.
+
+// Elements. A string becomes a text, never markup: no reply of the server is ever read as HTML.
+
+const SVG = \"http://www.w3.org/2000/svg\";
+
+/**
+ * What an element can have in it. Lists may be nested; null, undefined and false are left out, so that a part can be left out in place.
+ * @typedef {Node | string | null | undefined | false | Child[]} Child
+ */
+
+/**
+ * The attributes of an element by their names. `true` is an attribute without a value; null, undefined and false are none. A name that
+ * begins with `on` is an event, and its value the function that gets it.
+ * @typedef {Record<string, string | number | boolean | null | undefined | ((event: any) => void)>} Attributes
+ */
+
+/**
+ * An element with attributes and children.
+ * @template {Element} T
+ * @param {T} made
+ * @param {Attributes | null} attributes
+ * @param {Child[]} children
+ * @returns {T}
+ */
+function filled(made, attributes, children) {
+  for (const [name, value] of Object.entries(attributes ?? {})) {
+    if (value === null || value === undefined || value === false) {
+      continue;
+    }
+    if (typeof value === \"function\") {
+      made.addEventListener(name.slice(2), value);
+    } else {
+      made.setAttribute(name, value === true ? \"\" : String(value));
+    }
+  }
+  made.append(...listed(children));
+  return made;
+}
+
+/**
+ * The children as a flat list, without those that are left out.
+ * @param {Child[]} children
+ * @returns {Array<Node | string>}
+ */
+export function listed(children) {
+  return /** @type {any[]} */ (children).flat(Infinity).filter((child) => child !== null && child !== undefined && child !== false);
+}
+
+/**
+ * A new element of HTML.
+ * @param {string} name
+ * @param {Attributes | null} [attributes]
+ * @param {...Child} children
+ * @returns {any} the element; its type depends on the name
+ */
+export function h(name, attributes = {}, ...children) {
+  return filled(document.createElement(name), attributes, children);
+}
+
+/**
+ * A new element of SVG.
+ * @param {string} name
+ * @param {Attributes | null} [attributes]
+ * @param {...Child} children
+ * @returns {SVGElement}
+ */
+export function svg(name, attributes = {}, ...children) {
+  return filled(document.createElementNS(SVG, name), attributes, children);
+}
+
+/**
+ * The element with an id.
+ * @param {string} id
+ * @returns {any} the element, or null
+ */
+export function $(id) {
+  return document.getElementById(id);
+}
+
+// Requests. The key is in sessionStorage: the browser drops it with the tab.
+
+const PLACE = \"tacho.key\";
+
+/** The form of a key. A text of another form isn't sent. */
+export const KEY_FORM = /^[A-Za-z0-9-]{8,64}$/;
+
+/**
+ * The key of this tab.
+ * @returns {string | null}
+ */
+export function key() {
+  return sessionStorage.getItem(PLACE);
+}
+
+/**
+ * Keeps a key for this tab.
+ * @param {string} value
+ */
+export function keep(value) {
+  sessionStorage.setItem(PLACE, value);
+}
+
+/** Drops the key. */
+export function forget() {
+  sessionStorage.removeItem(PLACE);
+}
+
+/** A problem that the page tells: the name of a sentence, and the values that go into it. */
+export class Problem extends Error {
+  /**
+   * @param {string} name
+   * @param {...(string | number)} values
+   */
+  constructor(name, ...values) {
+    super(name);
+    this.name = name;
+    this.values = values;
+  }
+}
+
+/** The sentences on statuses that aren't from a command. */
+const TOLD = new Map([[403, \"badKey\"], [429, \"tooOften\"], [502, \"isDown\"], [503, \"isDown\"], [504, \"isDown\"]]);
+
+let asking = 0;
+/** @type {Array<(count: number) => void>} */
+const watchers = [];
+
+/**
+ * Has a function told how many requests are waiting, whenever that changes.
+ * @param {(count: number) => void} tell
+ */
+export function watch(tell) {
+  watchers.push(tell);
+}
+
+/**
+ * Counts the requests that are waiting.
+ * @param {number} by
+ */
+function change(by) {
+  asking += by;
+  watchers.forEach((tell) => tell(asking));
+}
+
+/**
+ * What a request has beside its path. `key` is another key than that of the tab. `wait` is called before a reading is sent again.
+ * @typedef {{method?: string, body?: BodyInit, signal?: AbortSignal, key?: string, wait?: (seconds: number) => void}} Options
+ */
+
+/**
+ * A request and its reply.
+ * @param {string} path
+ * @param {Options} options
+ * @param {(reply: Response) => Promise<T>} take what takes the body
+ * @template T
+ * @returns {Promise<T>}
+ */
+async function asked(path, { method = \"GET\", body, signal, key: other }, take) {
+  change(1);
+  try {
+    const headers = { \"x-key\": other ?? key() ?? \"\" };
+    return await take(await fetch(path, { method, body, signal, headers, cache: \"no-store\", credentials: \"omit\", redirect: \"error\" }));
+  } catch (fault) {
+    throw /** @type {Error} */ (fault).name === \"AbortError\" ? fault : new Problem(\"noConnection\");
+  } finally {
+    change(-1);
+  }
+}
+
+/**
+ * A request, and the status and text of its reply. Only a plain text or CSV is a reply of the archive, and its text is kept; other texts
+ * are of servers between.
+ * @param {string} path
+ * @param {Options} [options]
+ * @returns {Promise<{status: number, text: string}>}
+ */
+export function send(path, options = {}) {
+  return asked(path, options, async (reply) => {
+    const text = await reply.text();
+    const isOurs = /^text\\/(plain|csv)\\b/.test(reply.headers.get(\"content-type\") ?? \"\");
+    return { status: reply.status, text: isOurs ? text : \"\" };
+  });
+}
+
+/**
+ * The problem of a reply that isn't what was asked for.
+ * @param {number} status
+ * @param {string} text
+ * @returns {Problem}
+ */
+function problemOf(status, text) {
+  if (text === \"S4 unknown driver\\n\") {
+    return new Problem(\"noDriver\");
+  }
+  const name = TOLD.get(status);
+  return name === undefined ? new Problem(\"otherReply\", status, text.trim()) : new Problem(name);
+}
+
+/**
+ * Waits, unless it is given up.
+ * @param {number} seconds
+ * @param {AbortSignal} [signal]
+ * @returns {Promise<void>}
+ */
+function pause(seconds, signal) {
+  return new Promise((done, giveUp) => {
+    const timer = setTimeout(done, 1000 * seconds);
+    signal?.addEventListener(\"abort\", () => {
+      clearTimeout(timer);
+      giveUp(signal.reason);
+    }, { once: true });
+  });
+}
+
+/** The seconds of each wait after 429, one after the other. */
+const WAITS = [2, 4, 8, 16, 30, 30, 30];
+
+/**
+ * What a request gives. With `wait` it is sent again after 429, since nothing was asked of the archive then; each time later than before.
+ * @param {Options} options
+ * @param {() => Promise<T>} ask throws a Problem `tooOften` after 429
+ * @template T
+ * @returns {Promise<T>}
+ */
+async function patiently({ signal, wait }, ask) {
+  for (const seconds of WAITS) {
+    try {
+      return await ask();
+    } catch (fault) {
+      if (wait === undefined || !(fault instanceof Problem) || fault.name !== \"tooOften\") {
+        throw fault;
+      }
+      wait(seconds);
+      await pause(seconds, signal);
+    }
+  }
+  return ask();
+}
+
+/**
+ * The text of a reading.
+ * @param {string} path
+ * @param {Options} [options]
+ * @returns {Promise<string>}
+ */
+export function reading(path, options = {}) {
+  return patiently(options, async () => {
+    const { status, text } = await send(path, options);
+    if (status === 200) {
+      return text;
+    }
+    throw problemOf(status, text);
+  });
+}
+
+/**
+ * The bytes of a card file, or of a handover.
+ * @param {string} path
+ * @param {Options} [options]
+ * @returns {Promise<Blob>}
+ */
+export function bytes(path, options = {}) {
+  return patiently(options, () => asked(path, options, async (reply) => {
+    if (reply.status === 200) {
+      return reply.blob();
+    }
+    throw problemOf(reply.status, \"\");
+  }));
+}
+
+// Modules
+
+/** The value of a problem with a module. */
+export const MODULE = \"module\";
+
+/**
+ * A module.
+ * @param {string} path
+ * @returns {Promise<any>}
+ */
+export function moduleAt(path) {
+  return import(path).catch((fault) => { throw fault instanceof TypeError ? new Problem(\"noConnection\", MODULE) : fault; });
+}
+"
+}
+
 /// The text at `/shared/parts.js`.
 fn shared_parts_js() -> &'static str {
     "// Parts that both pages show: breaches with their evidence, the chart, the sheet, debts, gaps, what isn't examined, and what is left.
-import { h, svg } from \"./dom.js\";
+import { h, svg } from \"./page.js\";
 import { ARTICLES, leftOf } from \"./read.js\";
 import { amountText, both, bothTimes, formal, hm, length, localMoment, localTime, say, shortFormal, shortUtcDay, utcDay, utcTime }
   from \"./say.js\";
@@ -5403,7 +5382,7 @@ function remarksOf(line) {
  * A moment in a line of evidence.
  * @param {number | null | undefined} minute null where it isn't known, undefined where there is none
  * @param {boolean} isFormal
- * @returns {import(\"./dom.js\").Child[]}
+ * @returns {import(\"./page.js\").Child[]}
  */
 function momentCell(minute, isFormal) {
   if (minute === undefined) {
@@ -5549,7 +5528,7 @@ export function unseenOf(stretches, [first, past]) {
  * Why a range isn't examined, as an item of a list.
  * @param {Unseen} one
  * @param {Range[]} gaps
- * @param {import(\"./dom.js\").Child} form a link to the form for gaps
+ * @param {import(\"./page.js\").Child} form a link to the form for gaps
  * @returns {HTMLElement}
  */
 function unseenItem(one, gaps, form) {
@@ -5585,8 +5564,8 @@ function endLine(last, horizon, first, end) {
  * @param {[number, number]} range the month's
  * @param {number} [end] the end of what is held, 0 where nothing is
  * @param {Range[]} [gaps]
- * @param {import(\"./dom.js\").Child} [form] a link to the form for gaps
- * @returns {import(\"./dom.js\").Child}
+ * @param {import(\"./page.js\").Child} [form] a link to the form for gaps
+ * @returns {import(\"./page.js\").Child}
  */
 export function notExaminedBox(stretches, range, end = 0, gaps = [], form = null) {
   const all = unseenOf(stretches, range);
@@ -5741,7 +5720,7 @@ function dayRow(month, { start, columns }) {
  * @returns {HTMLElement}
  */
 function legend(hasCrew) {
-  const sample = (/** @type {string} */ text, /** @type {import(\"./dom.js\").Child[]} */ ...shapes) =>
+  const sample = (/** @type {string} */ text, /** @type {import(\"./page.js\").Child[]} */ ...shapes) =>
     h(\"span\", {}, svg(\"svg\", { viewBox: \"0 0 60 24\", preserveAspectRatio: \"none\" }, shapes), text);
   return h(\"div\", { class: \"legend\", \"aria-hidden\": \"true\" },
     Object.keys(HEIGHTS).map((activity) => sample(say[activity], bar(activity, false, 0, 60))),
@@ -5789,7 +5768,7 @@ export function sheetTable({ days, total, later = [] }) {
   return h(\"div\", { class: \"wide\", tabindex: \"0\", role: \"region\", \"aria-label\": say.sheet }, h(\"table\", { class: \"tight\" },
     h(\"thead\", {}, h(\"tr\", {}, heads)),
     h(\"tbody\", {}, days.map(row), rest),
-    h(\"tfoot\", {}, h(\"tr\", {}, h(\"th\", { scope: \"row\" }, say.total), total.map(cell)))));
+    h(\"tfoot\", {}, h(\"tr\", {}, h(\"th\", { scope: \"row\" }, say.wholeMonth), total.map(cell)))));
 }
 
 // Debts and gaps
@@ -5797,7 +5776,7 @@ export function sheetTable({ days, total, later = [] }) {
 /**
  * The rest that is to be made up, and below it the rest that was. Where the examination broke off, it isn't known what became of a debt.
  * @param {Array<Stretch<Debt>>} stretches
- * @returns {import(\"./dom.js\").Child}
+ * @returns {import(\"./page.js\").Child}
  */
 export function debtsPart(stretches) {
   const last = stretches.at(-1);
@@ -5891,7 +5870,7 @@ export function meters(ahead) {
 fn shared_read_js() -> &'static str {
     "// What the replies say (docs/FORMATS.md). Every line has to have its form and its place, else the reply is unreadable: what can't be read
 // is never left out. Each function that reads takes the text of a reply, and throws a Problem `unreadable`.
-import { Problem } from \"./ask.js\";
+import { Problem } from \"./page.js\";
 import { DAY, dateOf, minuteOf, monthOf, rangeOf, textOf, weekdayOf, weekOf } from \"./time.js\";
 
 /**
@@ -6215,7 +6194,7 @@ function runOf(start, past, length) {
 }
 
 /**
- * A length that has to have so many minutes.
+ * A length of exactly this many minutes.
  * @param {string} text
  * @param {number} minutes
  * @returns {number}
@@ -6606,14 +6585,16 @@ export function holderOf(file) {
 
 /// The text at `/shared/say.js`.
 fn shared_say_js() -> &'static str {
-    "// The language, and how times and lengths are said in it. words.js has the sentences.
+    "// The language, and how times and lengths are said in it. Its sentences are in two files, words-en.js or words-de.js: those of both pages
+// in shared/, the others in the page's own folder. Only the files of the language that is shown are loaded.
+import { moduleAt } from \"./page.js\";
 import { DAY, dateOf, localText, minuteOf, textOf, weekdayOf } from \"./time.js\";
-import { WORDS } from \"./words.js\";
-
-export { DAY };
 
 /** Where the language is kept: in localStorage, since it is no secret and holds for all visits. */
 const PLACE = \"tacho.language\";
+
+/** The languages that there are, each with its own name. @type {Array<[string, string]>} */
+export const LANGUAGES = [[\"en\", \"English\"], [\"de\", \"Deutsch\"]];
 
 /**
  * The language to begin with: the one that was chosen, else the first of the browser's that there is, else English.
@@ -6621,16 +6602,27 @@ const PLACE = \"tacho.language\";
  */
 function firstLanguage() {
   const wanted = [localStorage.getItem(PLACE), ...navigator.languages.map((one) => one.split(\"-\")[0].toLowerCase())];
-  return wanted.find((one) => one !== null && Object.hasOwn(WORDS, one)) ?? \"en\";
+  return wanted.find((one) => LANGUAGES.some(([language]) => language === one)) ?? \"en\";
+}
+
+/**
+ * The sentences of a language.
+ * @param {string} language
+ * @returns {Promise<Record<string, any>>}
+ */
+async function wordsOf(language) {
+  const folders = [\"shared\", location.pathname.split(\"/\")[1]];
+  const modules = await Promise.all(folders.map((folder) => moduleAt(`/${folder}/words-${language}.js`)));
+  return Object.assign({}, ...modules.map((module) => module.WORDS));
 }
 
 let language = firstLanguage();
 
-/** The sentences of the present language. @type {Record<string, any>} */
-export let say = WORDS[language];
+/** The sentences of the present language. There are none before `ready`. @type {Record<string, any>} */
+export let say = {};
 
-/** The languages that there are, each with its own name. @type {Array<[string, string]>} */
-export const LANGUAGES = Object.entries(WORDS).map(([one, words]) => [one, words.name]);
+/** A page waits for this before it shows anything. */
+export const ready = wordsOf(language).then((words) => { say = words; });
 
 /**
  * The present language.
@@ -6641,16 +6633,14 @@ export function languageNow() {
 }
 
 /**
- * Takes another language.
+ * Takes another language, and keeps it for later visits, unless one is chosen while its sentences are loading.
  * @param {string} other
- * @param {boolean} [isKept] whether it is kept for later visits
  */
-export function speak(other, isKept = true) {
-  language = other;
-  say = WORDS[other];
-  if (isKept) {
-    localStorage.setItem(PLACE, other);
-    document.documentElement.lang = other;
+export async function speak(other) {
+  localStorage.setItem(PLACE, other);
+  const words = await wordsOf(other);
+  if (localStorage.getItem(PLACE) === other) {
+    [language, say] = [other, words];
   }
 }
 
@@ -6659,25 +6649,16 @@ export function speak(other, isKept = true) {
  * @param {string} other
  * @param {() => T} make
  * @template T
- * @returns {T}
+ * @returns {Promise<T>}
  */
-export function withLanguage(other, make) {
-  const was = language;
-  speak(other, false);
+export async function withLanguage(other, make) {
+  const words = await wordsOf(other);
+  const was = /** @type {const} */ ([language, say]);
+  [language, say] = [other, words];
   try {
     return make();
   } finally {
-    speak(was, false);
-  }
-}
-
-/**
- * Adds the sentences of one page to those of all pages.
- * @param {Record<string, Record<string, any>>} tables a table for each language
- */
-export function addWords(tables) {
-  for (const [one, words] of Object.entries(tables)) {
-    Object.assign(WORDS[one], words);
+    [language, say] = was;
   }
 }
 
@@ -6862,7 +6843,7 @@ export function amountText({ kind, amount }) {
 /// The text at `/shared/tables.js`.
 fn shared_tables_js() -> &'static str {
     "// What the replies in CSV say (docs/FORMATS.md): a row for each driver, or for each breach. A text of another form is a problem.
-import { Problem } from \"./ask.js\";
+import { Problem } from \"./page.js\";
 import { minuteOf } from \"./time.js\";
 
 const DAY = /^\\d{4}-\\d\\d-\\d\\d$/, MOMENT = /^\\d{4}-\\d\\d-\\d\\d \\d\\d:\\d\\d$/, NUMBER = /^\\d+$/;
@@ -7115,146 +7096,285 @@ export function nextMorning() {
 "
 }
 
-/// The text at `/shared/words.js`.
-fn shared_words_js() -> &'static str {
-    "// All sentences, a table for each language with the same names. Sentences about breaches have no subject: they don't say who is to blame.
-const two = (n) => String(n).padStart(2, \"0\");
+/// The text at `/shared/words-de.js`.
+fn shared_words_de_js() -> &'static str {
+    "// The German sentences of both pages. words-en.js has the same names in the same order.
 const NB = \"\\u00a0\";
-const long = (n) => `${Math.floor(n / 60)}${NB}h${n % 60 ? `${NB}${two(n % 60)}` : \"\"}`;
-const en = (n) => (n >= 60 ? long(n) : `${n}${NB}min`);
-const de = (n) => (n >= 60 ? long(n) : `${n}${NB}Min.`);
-const ordinal = (n) => n + ((Math.floor(n / 10) % 10 !== 1 && [\"th\", \"st\", \"nd\", \"rd\"][n % 10]) || \"th\");
-const EN_DAYS = [\"Sun\", \"Mon\", \"Tue\", \"Wed\", \"Thu\", \"Fri\", \"Sat\"], DE_DAYS = [\"So\", \"Mo\", \"Di\", \"Mi\", \"Do\", \"Fr\", \"Sa\"];
-const EN_MONTHS = [\"January\", \"February\", \"March\", \"April\", \"May\", \"June\", \"July\", \"August\", \"September\", \"October\", \"November\", \"December\"];
-const DE_MONTHS = [\"Januar\", \"Februar\", \"März\", \"April\", \"Mai\", \"Juni\", \"Juli\", \"August\", \"September\", \"Oktober\", \"November\", \"Dezember\"];
+const two = (n) => String(n).padStart(2, \"0\");
 export const many = (n, one, more) => `${n}${NB}${n === 1 ? one : more}`;
+const hours = (n) => `${Math.floor(n / 60)}${NB}h${n % 60 ? `${NB}${two(n % 60)}` : \"\"}`;
+const length = (n) => (n >= 60 ? hours(n) : `${n}${NB}Min.`);
+const DAYS = [\"So\", \"Mo\", \"Di\", \"Mi\", \"Do\", \"Fr\", \"Sa\"];
+const MONTHS = [\"Januar\", \"Februar\", \"März\", \"April\", \"Mai\", \"Juni\", \"Juli\", \"August\", \"September\", \"Oktober\", \"November\", \"Dezember\"];
 
 export const WORDS = {
-  en: {
-    language: \"Language\", name: \"English\", lengthOf: en, days: EN_DAYS,
-    date: (y, m, d, w) => `${EN_DAYS[w]} ${d}${NB}${EN_MONTHS[m - 1].slice(0, 3)} ${y}`,
-    shortDate: (y, m, d, w) => `${EN_DAYS[w]} ${d}${NB}${EN_MONTHS[m - 1].slice(0, 3)}`,
-    month: (y, m) => `${EN_MONTHS[m - 1]} ${y}`,
-    local: \"local\", to: \"to\", zoneNote: (zone, ahead) => `Times are local (${zone}, UTC${ahead}), with UTC, as on the card, beside them where it counts. Days and weeks of the rules begin at 00:00 UTC.`,
-    // frame
-    start: \"Drivers today\", left: \"What is left\",
-    busy: \"Asking the archive …\", busyLong: \"Still waiting. The archive answers one request after another.\", cancel: \"Stop waiting\", retry: \"Try again\",
-    badKey: \"This key isn't known. Check it, or ask whoever keeps the service.\", tooOften: \"Too many requests. Wait a few seconds, and try again.\",
-    isDown: \"The archive can't be reached at the moment. Nothing that was saved is lost. Try again in a minute; if that doesn't help, ask whoever keeps the service.\",
-    noConnection: \"The service isn't running, or there is no connection to it. Nothing that was saved is lost. Ask whoever keeps the service (systemctl status tacho).\",
-    noDriver: \"There is no driver with this number.\", otherReply: (status, line) => `The archive gave an unexpected reply: ${status} ${line}`, unreadable: \"The archive gave a reply that this page can't read, so it shows none of it. Program and page may be of two versions.\",
-    loggedOut: \"You are logged out.\", foot: \"The archive's replies are proved, this page is only tested. It applies its reading of the rules to the hours that it has; this is no legal advice.\",
-    // start
-    colHeld: \"Known to\",
-    none: \"none\",
-    again: \"Refresh\",
-    // month
-    monthBefore: \"Month before\", monthAfter: \"Month after\", examinedAll: \"This month is examined as a whole.\",
-    notExamined: \"Not examined\", notFrom: (a, b) => `${a} to ${b}`, openEnd: (a) => `from ${a} on`, unknown: \"It isn't known what happened from then on.\", crew: \"There was a second driver. Driving with a second driver isn't examined.\", beforeBase: (d) => `Before ${d}, from which this driver is examined, nothing was looked at.`, restart: (d) => `The examination begins again on the next Monday, ${d}, without regard to what came before.`, unknownGap: (a, b, l) => `Unknown are the ${l} from ${a} to ${b}.`,
-    noLooks: \"Where nothing is examined no breach is shown, whether there was one or not.\",
-    breaches: \"Breaches\", noBreach: \"No breach was found in what was examined of this month.\", nothingExamined: \"Nothing of this month was examined, so no breach can be shown.\",
-    evidence: \"Why?\", limit: \"limit\", over: \"over\", article: (a, kind) => `Regulation (EC) No 561/2006, Article ${a} (${kind})`,
-    B1: (a) => `${en(270 + a)} of driving without a full break of 45 minutes (or of 15 and then 30). The limit is 4 h 30.`,
-    B2: (a) => `The next rest of 9 h or more began ${en(a)} too late. It has to begin within 15 h of the start of the day.`,
-    B3: (a) => `${ordinal(3 + a)} daily rest since the last weekly rest of which less than 11 h lay within 24 h of the start of the day. The limit is 3.`,
-    B4: (a) => `${en(600 + a)} of driving in one day, from one rest of 9 h or more to the next. The limit is 10 h.`,
-    B5: (a) => `${en(540 + a)} of driving in one day, after two other days of the week with more than 9 h. The limit is two such days in a week.`,
-    B6: (a) => `${en(3360 + a)} of driving in one week. The limit is 56 h.`,
-    B7: (a) => `${en(5400 + a)} of driving in two consecutive weeks. The limit is 90 h.`,
-    B8: (a) => `The weekly rest began ${en(a)} too late. It has to begin within six times 24 h of the end of the last one.`,
-    B9: () => \"Two consecutive weeks have a weekly rest too few: they need two of 24 h or more, one of them of 45 h or more, and each rest counts once. Around leave an officer may count otherwise.\",
-    B10: (a) => `A weekly rest was ${en(a)} short of 45 h, and this wasn't made up in one piece by the end of the third week after it.`,
-    short: { B1: \"Break\", B2: \"Daily rest\", B3: \"Reduced daily rests\", B4: \"Daily driving\", B5: \"Extended days\", B6: \"Weekly driving\", B7: \"Driving in two weeks\", B8: \"Weekly rest\", B9: \"Weekly rests of two weeks\", B10: \"Rest not made up\" },
-    since: \"counted since\", at: \"limit reached\",
-    ev: { break: \"full break\", drive: \"driving\", rest: \"rest\", day: \"day\", limit: \"24 h end\", weekly: \"weekly rest\", reduced: \"reduced rest\", week: \"week\", date: \"day\", from: \"weeks from\", owes: \"to make up\", main: \"main rest\" }, evHead: [\"\", \"from\", \"to\", \"length\", \"sum\"], evHeadFormal: [\"\", \"from, UTC (local)\", \"to, UTC (local)\", \"length\", \"sum\"], late: (l) => `${l} late`, lacking: (l) => `${l} lacking`, overBy: (l) => `${l} over`, longest: (within, all) => within === all ? `The longest rest within these 24 h had ${within}.` : `Of the longest rest within these 24 h, ${within} lay in them (of ${all}).`, knownTo: (at) => `Known and examined to ${at}. What comes after it isn't in the archive yet.`, knownBefore: (at) => `Known to ${at}, before this month.`, open: \"not known\", within: (l) => `of which ${l} within the 24 h`, inWeeks: (w) => `may count for the week from ${w}`, room: (l) => `${l} could make up`, atRest: \"at rest throughout\",
-    chart: \"Chart\", chartNote: (ahead) => `Hours are UTC, as on the card; local time is UTC${ahead}.`, rest: \"rest\", available: \"available\", work: \"other work\", drive: \"driving\", withCrew: \"with a second driver\", notKnown: \"unknown\", unseen: \"not examined\", mark: \"breach\", sum: \"driven\",
-    sheet: \"Each day in numbers\", sheetColumns: [\"Day (UTC)\", \"Rest\", \"Available\", \"Other work\", \"Driving\", \"Second driver\", \"Unknown\"], total: \"Month\",
-    debts: \"Rest to be made up\", noDebts: \"No reduced weekly rest is known that still has to be made up.\", debt: (week, n, by) => `${n} for the week from ${week}: in one piece, beside a rest of 9 h or more, before ${by}.`, debtLate: (week, n, by) => `${n} for the week from ${week} had to be taken before ${by}. It wasn't taken by then.`, debtPaid: (n) => many(n, \"earlier one made up\", \"earlier ones made up\"), debtWas: (week, n, at) => `${n} for the week from ${week}: made up with the rest of ${at}.`,
-    notYet: (a, b) => (a === b.slice(0, a.length) ? `${b}: not yet` : `${a} to ${b}: not yet`),
-    debtBroken: (week, n, by) => `${n} for the week from ${week}, before ${by}: it isn't known whether it was taken, since the hours after it aren't known.`,
-    leftShort: \"latest start of a daily rest of 9 h (it is too late for one of 11 h)\",
-    gaps: \"Unknown hours\", noGaps: \"No hour of this month is missing, up to the end of what is known.\",
-    // letter
-    from: \"Sender\",
-    // left
-    leftHead: \"What is left\", startAt: \"Start of driving (local time)\", show: \"Show\", leftAssume: \"Assumes rest from the last known hour until the start. Whatever was driven since isn't in it.\",
-    leftStale: (n) => `Known only to ${n} days before the start: don't rely on it`, noLeft: \"No card file yet.\", more: \"more than the week has\", leftBreak: \"until a full break of 45 min\", leftDay: \"of driving in the day\", leftDay9: \"of driving in the day (10 h twice a week, both used)\", leftWeek: \"of driving this week\", leftTwo: \"of driving in this week and the last\", leftRest: (t) => `latest start of a daily rest of 9 h (of 11 h: ${t})`, leftLong: \"latest start of the daily rest of 11 h: the three short rests are used\", leftWeekly: \"latest start of the weekly rest\", leftUsed: (r, e) => `Reduced daily rests: ${r} of 3 · days over 9 h: ${e} of 2`, driven: (n) => `driven ${n}`, of: \"of\",
-    // driver
-    yourHours: \"Your hours\", yourKey: \"Your key\", yourKeyHelp: \"The office has given it to you. It stays in this tab until you log out or close the tab.\", showHours: \"Show my hours\", files: \"Your card files\", filesHelp: \"You may have a copy of what was read from your card.\",
-    // files
-    drop: \"Drop card files here, or choose them\", choose: \"Choose files\", sent: (n, all) => `${n} of ${all} sent`,
-    broken: (name) => `${name}: no file of a driver card, or damaged. Nothing was taken.`, tooLarge: (name) => `${name}: too large (at most 262,144 bytes). It wasn't sent.`, refused: (name, line) => `${name}: refused (${line}). Nothing was taken.`,
-    // people
-    number: \"Number\", base: \"Examined from\",
-    // inspection
-    fileName: \"File\",
-    // the office: frame, lists and dialogs
-    stopped: \"Stopped. Nothing was changed.\",
-    // the office: month of all, what is left
-    breach: \"Breach\",
-    // the office: card files
-    sendAgain: \"Send again\",
-    // the office: gaps and entries
-    entries: \"Entries\",
-    withdrawn: (a, b) => (a === b ? `Entry ${a} is withdrawn.` : `Entries ${a} to ${b} are withdrawn.`),
-  },
-};
-WORDS.de = {
-  ...WORDS.en,
-  language: \"Sprache\", name: \"Deutsch\", lengthOf: de, days: DE_DAYS,
-  date: (y, m, d, w) => `${DE_DAYS[w]} ${two(d)}.${two(m)}.${y}`, shortDate: (y, m, d, w) => `${DE_DAYS[w]} ${two(d)}.${two(m)}.`, month: (y, m) => `${DE_MONTHS[m - 1]} ${y}`,
-  local: \"Ortszeit\", to: \"bis\", zoneNote: (zone, ahead) => `Zeiten sind Ortszeit (${zone}, UTC${ahead}); wo es darauf ankommt, steht UTC, wie auf der Karte, daneben. Tage und Wochen der Regeln beginnen um 00:00 UTC.`,
-  start: \"Fahrer heute\", left: \"Was noch geht\",
-  busy: \"Das Archiv wird gefragt …\", busyLong: \"Noch keine Antwort. Das Archiv beantwortet eine Anfrage nach der anderen.\", cancel: \"Nicht mehr warten\", retry: \"Noch einmal\",
-  badKey: \"Diesen Schlüssel gibt es nicht. Prüfen Sie ihn.\", tooOften: \"Zu viele Anfragen. Warten Sie einige Sekunden.\", isDown: \"Das Archiv ist im Augenblick nicht erreichbar. Was gespeichert war, ist nicht verloren. Versuchen Sie es in einer Minute noch einmal.\", noConnection: \"Der Dienst läuft nicht, oder es gibt keine Verbindung. Was gespeichert war, ist nicht verloren. Fragen Sie den Betreuer des Dienstes (systemctl status tacho).\",
-  noDriver: \"Es gibt keinen Fahrer mit dieser Nummer.\", otherReply: (status, line) => `Das Archiv hat unerwartet geantwortet: ${status} ${line}`, unreadable: \"Das Archiv hat etwas geantwortet, was diese Seite nicht lesen kann; sie zeigt nichts davon. Programm und Seite sind vielleicht von zwei Versionen.\",
-  loggedOut: \"Sie sind abgemeldet.\", foot: \"Die Antworten des Archivs sind bewiesen, diese Seite ist nur getestet. Es wendet seine Lesart der Regeln auf die Stunden an, die es hat; das ist keine Rechtsberatung.\",
-  colHeld: \"Bekannt bis\",
-  none: \"keine\",
-  again: \"Aktualisieren\",
-  monthBefore: \"Vormonat\", monthAfter: \"Folgemonat\", examinedAll: \"Dieser Monat ist ganz geprüft.\",
-  notExamined: \"Nicht geprüft\", notFrom: (a, b) => `${a} bis ${b}`, openEnd: (a) => `ab ${a}`, unknown: \"Ab dann ist nicht bekannt, was war.\", crew: \"Ein zweiter Fahrer war dabei. Fahren zu zweit wird nicht geprüft.\", beforeBase: (d) => `Vor ${d}, ab dem geprüft wird, wurde nichts angesehen.`, restart: (d) => `Die Prüfung beginnt wieder am nächsten Montag, ${d}, ohne Rücksicht auf das, was vorher war.`, unknownGap: (a, b, l) => `Unbekannt sind ${l}, von ${a} bis ${b}.`,
+  // Times and lengths
+  lengthOf: length,
+  days: DAYS,
+  date: (y, m, d, w) => `${DAYS[w]} ${two(d)}.${two(m)}.${y}`,
+  shortDate: (y, m, d, w) => `${DAYS[w]} ${two(d)}.${two(m)}.`,
+  month: (y, m) => `${MONTHS[m - 1]} ${y}`,
+  local: \"Ortszeit\",
+  to: \"bis\",
+  zoneNote: (zone, ahead) => `Zeiten sind Ortszeit (${zone}, UTC${ahead}); wo es darauf ankommt, steht UTC, wie auf der Karte, daneben. Tage und Wochen der Regeln beginnen um 00:00 UTC.`,
+
+  // The page
+  language: \"Sprache\",
+  cards: \"Kartendateien\",
+  logOut: \"Abmelden\",
+  loggedOut: \"Sie sind abgemeldet.\",
+  busy: \"Das Archiv wird gefragt …\",
+  busyLong: \"Noch keine Antwort. Das Archiv beantwortet eine Anfrage nach der anderen.\",
+  cancel: \"Nicht mehr warten\",
+  retry: \"Noch einmal\",
+  show: \"Zeigen\",
+  foot: \"Die Antworten des Archivs sind bewiesen, diese Seite ist nur getestet. Es wendet seine Lesart der Regeln auf die Stunden an, die es hat; das ist keine Rechtsberatung.\",
+
+  // What can go wrong
+  tooOften: \"Zu viele Anfragen. Warten Sie einige Sekunden.\",
+  noDriver: \"Es gibt keinen Fahrer mit dieser Nummer.\",
+  otherReply: (status, line) => `Das Archiv hat unerwartet geantwortet: ${status} ${line}`,
+
+  // A month
+  monthBefore: \"Vormonat\",
+  monthAfter: \"Folgemonat\",
+  wholeMonth: \"Monat\",
+  examinedAll: \"Dieser Monat ist ganz geprüft.\",
+  notExamined: \"Nicht geprüft\",
+  notFrom: (a, b) => `${a} bis ${b}`,
+  openEnd: (a) => `ab ${a}`,
+  unknown: \"Ab dann ist nicht bekannt, was war.\",
+  crew: \"Ein zweiter Fahrer war dabei. Fahren zu zweit wird nicht geprüft.\",
+  beforeBase: (d) => `Vor ${d}, ab dem geprüft wird, wurde nichts angesehen.`,
+  restart: (d) => `Die Prüfung beginnt wieder am nächsten Montag, ${d}, ohne Rücksicht auf das, was vorher war.`,
+  unknownGap: (a, b, l) => `Unbekannt sind ${l}, von ${a} bis ${b}.`,
   noLooks: \"Wo nichts geprüft ist, wird kein Verstoß gezeigt, ob es einen gab oder nicht.\",
-  breaches: \"Verstöße\", noBreach: \"In dem, was von diesem Monat geprüft ist, wurde kein Verstoß gefunden.\", nothingExamined: \"Von diesem Monat wurde nichts geprüft, also kann kein Verstoß gezeigt werden.\",
-  evidence: \"Warum?\", limit: \"Grenze\", over: \"darüber\", article: (a, kind) => `Verordnung (EG) Nr. 561/2006, ${germanArticle(a)} (${kind})`,
-  B1: (a) => `${de(270 + a)} Lenkzeit ohne volle Fahrtunterbrechung von 45 Minuten (oder von 15 und danach 30). Die Grenze ist 4 h 30.`,
-  B2: (a) => `Die nächste Ruhezeit von 9 h oder mehr begann ${de(a)} zu spät. Sie muss innerhalb von 15 h ab dem Beginn des Tages beginnen.`,
+  gaps: \"Unbekannte Stunden\",
+  noGaps: \"In diesem Monat fehlt keine Stunde, bis zum Ende dessen, was bekannt ist.\",
+  isWithdrawn: \"zurückgezogen\",
+
+  // Breaches. No sentence has a subject: none says who is to blame
+  breaches: \"Verstöße\",
+  noBreach: \"In dem, was von diesem Monat geprüft ist, wurde kein Verstoß gefunden.\",
+  nothingExamined: \"Von diesem Monat wurde nichts geprüft, also kann kein Verstoß gezeigt werden.\",
+  evidence: \"Warum?\",
+  article: (a, kind) => `Verordnung (EG) Nr. 561/2006, Artikel ${a.replace(/\\((\\w+)\\)/, \" Absatz $1\")} (${kind})`,
+  B1: (a) => `${length(270 + a)} Lenkzeit ohne volle Fahrtunterbrechung von 45 Minuten (oder von 15 und danach 30). Die Grenze ist 4 h 30.`,
+  B2: (a) => `Die nächste Ruhezeit von 9 h oder mehr begann ${length(a)} zu spät. Sie muss innerhalb von 15 h ab dem Beginn des Tages beginnen.`,
   B3: (a) => `${3 + a}. tägliche Ruhezeit seit der letzten wöchentlichen, von der weniger als 11 h innerhalb von 24 h ab dem Beginn des Tages lagen. Die Grenze ist 3.`,
-  B4: (a) => `${de(600 + a)} Lenkzeit an einem Tag, von einer Ruhezeit von 9 h oder mehr bis zur nächsten. Die Grenze ist 10 h.`,
-  B5: (a) => `${de(540 + a)} Lenkzeit an einem Tag, nach zwei anderen Tagen der Woche mit mehr als 9 h. Die Grenze sind zwei solche Tage in einer Woche.`,
-  B6: (a) => `${de(3360 + a)} Lenkzeit in einer Woche. Die Grenze ist 56 h.`,
-  B7: (a) => `${de(5400 + a)} Lenkzeit in zwei aufeinanderfolgenden Wochen. Die Grenze ist 90 h.`,
-  B8: (a) => `Die wöchentliche Ruhezeit begann ${de(a)} zu spät. Sie muss innerhalb von sechs mal 24 h nach dem Ende der letzten beginnen.`,
+  B4: (a) => `${length(600 + a)} Lenkzeit an einem Tag, von einer Ruhezeit von 9 h oder mehr bis zur nächsten. Die Grenze ist 10 h.`,
+  B5: (a) => `${length(540 + a)} Lenkzeit an einem Tag, nach zwei anderen Tagen der Woche mit mehr als 9 h. Die Grenze sind zwei solche Tage in einer Woche.`,
+  B6: (a) => `${length(3360 + a)} Lenkzeit in einer Woche. Die Grenze ist 56 h.`,
+  B7: (a) => `${length(5400 + a)} Lenkzeit in zwei aufeinanderfolgenden Wochen. Die Grenze ist 90 h.`,
+  B8: (a) => `Die wöchentliche Ruhezeit begann ${length(a)} zu spät. Sie muss innerhalb von sechs mal 24 h nach dem Ende der letzten beginnen.`,
   B9: () => \"In zwei aufeinanderfolgenden Wochen fehlt eine wöchentliche Ruhezeit: nötig sind zwei von 24 h oder mehr, davon eine von 45 h oder mehr, und jede Ruhezeit zählt einmal. Um einen Urlaub zählt ein Kontrolleur vielleicht anders.\",
-  B10: (a) => `Eine wöchentliche Ruhezeit war um ${de(a)} kürzer als 45 h, und das wurde nicht bis zum Ende der dritten Woche danach am Stück ausgeglichen.`,
+  B10: (a) => `Eine wöchentliche Ruhezeit war um ${length(a)} kürzer als 45 h, und das wurde nicht bis zum Ende der dritten Woche danach am Stück ausgeglichen.`,
   short: { B1: \"Fahrtunterbrechung\", B2: \"Tägliche Ruhezeit\", B3: \"Reduzierte Ruhezeiten\", B4: \"Tageslenkzeit\", B5: \"Verlängerte Tage\", B6: \"Wochenlenkzeit\", B7: \"Lenkzeit in zwei Wochen\", B8: \"Wöchentliche Ruhezeit\", B9: \"Wochenruhen von zwei Wochen\", B10: \"Nicht ausgeglichene Ruhezeit\" },
-  since: \"gezählt seit\", at: \"Grenze erreicht\",
-  ev: { break: \"volle Unterbrechung\", drive: \"Lenken\", rest: \"Ruhe\", day: \"Tag\", limit: \"Ende der 24 h\", weekly: \"Wochenruhe\", reduced: \"reduzierte Ruhe\", week: \"Woche\", date: \"Tag\", from: \"Wochen ab\", owes: \"auszugleichen\", main: \"Hauptruhe\" }, evHead: [\"\", \"von\", \"bis\", \"Dauer\", \"Summe\"], evHeadFormal: [\"\", \"von, UTC (Ortszeit)\", \"bis, UTC (Ortszeit)\", \"Dauer\", \"Summe\"], late: (l) => `${l} zu spät`, lacking: (l) => `${l} fehlen`, overBy: (l) => `${l} darüber`, longest: (within, all) => within === all ? `Die längste Ruhezeit innerhalb dieser 24 h hatte ${within}.` : `Von der längsten Ruhezeit lagen ${within} innerhalb dieser 24 h (von ${all}).`, knownTo: (at) => `Bekannt und geprüft bis ${at}. Was danach kommt, ist noch nicht im Archiv.`, knownBefore: (at) => `Bekannt bis ${at}, vor diesem Monat.`, open: \"nicht bekannt\", within: (l) => `davon ${l} innerhalb der 24 h`, inWeeks: (w) => `kann zählen für die Woche ab ${w}`, room: (l) => `${l} konnten ausgleichen`, atRest: \"durchgehend Ruhe\",
-  chart: \"Diagramm\", chartNote: (ahead) => `Die Stunden sind UTC, wie auf der Karte; Ortszeit ist UTC${ahead}.`, rest: \"Ruhe\", available: \"Bereitschaft\", work: \"andere Arbeit\", drive: \"Lenken\", withCrew: \"mit zweitem Fahrer\", notKnown: \"unbekannt\", unseen: \"nicht geprüft\", mark: \"Verstoß\", sum: \"gelenkt\",
-  sheet: \"Jeder Tag in Zahlen\", sheetColumns: [\"Tag (UTC)\", \"Ruhe\", \"Bereitschaft\", \"Andere Arbeit\", \"Lenken\", \"Zweiter Fahrer\", \"Unbekannt\"], total: \"Monat\",
-  debts: \"Auszugleichende Ruhezeit\", noDebts: \"Keine reduzierte wöchentliche Ruhezeit ist bekannt, die noch auszugleichen ist.\", debt: (week, n, by) => `${n} für die Woche ab ${week}: am Stück, neben einer Ruhezeit von 9 h oder mehr, vor ${by}.`, debtLate: (week, n, by) => `${n} für die Woche ab ${week} waren vor ${by} zu nehmen. Bis dahin wurden sie nicht genommen.`, debtPaid: (n) => `${n} frühere ausgeglichen`, debtWas: (week, n, at) => `${n} für die Woche ab ${week}: ausgeglichen mit der Ruhezeit vom ${at}.`,
+  since: \"gezählt seit\",
+  at: \"Grenze erreicht\",
+  late: (l) => `${l} zu spät`,
+  lacking: (l) => `${l} fehlen`,
+  overBy: (l) => `${l} darüber`,
+
+  // What shows a breach
+  ev: { break: \"volle Unterbrechung\", drive: \"Lenken\", rest: \"Ruhe\", day: \"Tag\", limit: \"Ende der 24 h\", weekly: \"Wochenruhe\", reduced: \"reduzierte Ruhe\", week: \"Woche\", date: \"Tag\", from: \"Wochen ab\", owes: \"auszugleichen\", main: \"Hauptruhe\" },
+  evHead: [\"\", \"von\", \"bis\", \"Dauer\", \"Summe\"],
+  evHeadFormal: [\"\", \"von, UTC (Ortszeit)\", \"bis, UTC (Ortszeit)\", \"Dauer\", \"Summe\"],
+  longest: (within, all) => within === all ? `Die längste Ruhezeit innerhalb dieser 24 h hatte ${within}.` : `Von der längsten Ruhezeit lagen ${within} innerhalb dieser 24 h (von ${all}).`,
+  knownTo: (at) => `Bekannt und geprüft bis ${at}. Was danach kommt, ist noch nicht im Archiv.`,
+  knownBefore: (at) => `Bekannt bis ${at}, vor diesem Monat.`,
+  open: \"nicht bekannt\",
+  within: (l) => `davon ${l} innerhalb der 24 h`,
+  inWeeks: (w) => `kann zählen für die Woche ab ${w}`,
+  room: (l) => `${l} konnten ausgleichen`,
+  atRest: \"durchgehend Ruhe\",
+
+  // The chart, and the days in numbers
+  chart: \"Diagramm\",
+  chartNote: (ahead) => `Die Stunden sind UTC, wie auf der Karte; Ortszeit ist UTC${ahead}.`,
+  rest: \"Ruhe\",
+  available: \"Bereitschaft\",
+  work: \"andere Arbeit\",
+  drive: \"Lenken\",
+  withCrew: \"mit zweitem Fahrer\",
+  notKnown: \"unbekannt\",
+  unseen: \"nicht geprüft\",
+  mark: \"Verstoß\",
+  sum: \"gelenkt\",
+  sheet: \"Jeder Tag in Zahlen\",
+  sheetColumns: [\"Tag (UTC)\", \"Ruhe\", \"Bereitschaft\", \"Andere Arbeit\", \"Lenken\", \"Zweiter Fahrer\", \"Unbekannt\"],
   notYet: (a, b) => (a === b.slice(0, a.length) ? `${b}: noch nicht` : `${a} bis ${b}: noch nicht`),
+
+  // Rest to be made up
+  debts: \"Auszugleichende Ruhezeit\",
+  noDebts: \"Keine reduzierte wöchentliche Ruhezeit ist bekannt, die noch auszugleichen ist.\",
+  debt: (week, n, by) => `${n} für die Woche ab ${week}: am Stück, neben einer Ruhezeit von 9 h oder mehr, vor ${by}.`,
+  debtLate: (week, n, by) => `${n} für die Woche ab ${week} waren vor ${by} zu nehmen. Bis dahin wurden sie nicht genommen.`,
   debtBroken: (week, n, by) => `${n} für die Woche ab ${week}, vor ${by}: Es ist nicht bekannt, ob sie genommen wurden, denn die Stunden danach sind nicht bekannt.`,
+  debtPaid: (n) => `${n} frühere ausgeglichen`,
+  debtWas: (week, n, at) => `${n} für die Woche ab ${week}: ausgeglichen mit der Ruhezeit vom ${at}.`,
+
+  // What is left
+  left: \"Was noch geht\",
+  colHeld: \"Bekannt bis\",
+  startAt: \"Beginn des Lenkens (Ortszeit)\",
+  leftAssume: \"Angenommen ist Ruhe von der letzten bekannten Stunde bis zum Beginn. Was seitdem gefahren wurde, ist nicht dabei.\",
+  leftStale: (n) => `Nur bis ${n} Tage vor dem Beginn bekannt: nicht verlässlich`,
+  noLeft: \"Noch keine Kartendatei.\",
+  leftBreak: \"bis zu einer vollen Unterbrechung von 45 Min.\",
+  leftDay: \"Lenken an diesem Tag\",
+  leftDay9: \"Lenken an diesem Tag (die zwei 10-Stunden-Tage der Woche sind verbraucht)\",
+  leftWeek: \"Lenken in dieser Woche\",
+  leftTwo: \"Lenken in dieser und der letzten Woche\",
+  leftRest: (t) => `spätester Beginn einer täglichen Ruhezeit von 9 h (von 11 h: ${t})`,
   leftShort: \"spätester Beginn einer täglichen Ruhezeit von 9 h (für eine von 11 h ist es zu spät)\",
-  gaps: \"Unbekannte Stunden\", noGaps: \"In diesem Monat fehlt keine Stunde, bis zum Ende dessen, was bekannt ist.\",
-  from: \"Absender\",
-  leftHead: \"Was noch geht\", startAt: \"Beginn des Lenkens (Ortszeit)\", show: \"Zeigen\", leftAssume: \"Angenommen ist Ruhe von der letzten bekannten Stunde bis zum Beginn. Was seitdem gefahren wurde, ist nicht dabei.\",
-  leftStale: (n) => `Nur bis ${n} Tage vor dem Beginn bekannt: nicht verlässlich`, noLeft: \"Noch keine Kartendatei.\", more: \"mehr, als die Woche hat\", leftBreak: \"bis zu einer vollen Unterbrechung von 45 Min.\", leftDay: \"Lenken an diesem Tag\", leftDay9: \"Lenken an diesem Tag (die zwei 10-Stunden-Tage der Woche sind verbraucht)\", leftWeek: \"Lenken in dieser Woche\", leftTwo: \"Lenken in dieser und der letzten Woche\", leftRest: (t) => `spätester Beginn einer täglichen Ruhezeit von 9 h (von 11 h: ${t})`, leftLong: \"spätester Beginn der täglichen Ruhezeit von 11 h: die drei kurzen sind verbraucht\", leftWeekly: \"spätester Beginn der Wochenruhe\", leftUsed: (r, e) => `Reduzierte tägliche Ruhen: ${r} von 3 · Tage über 9 h: ${e} von 2`, driven: (n) => `gelenkt ${n}`, of: \"von\",
-  yourHours: \"Ihre Stunden\", yourKey: \"Ihr Schlüssel\", yourKeyHelp: \"Sie haben ihn vom Büro bekommen. Er bleibt in diesem Tab, bis Sie sich abmelden oder den Tab schließen.\", showHours: \"Meine Stunden zeigen\", files: \"Ihre Kartendateien\", filesHelp: \"Was von Ihrer Karte gelesen wurde, dürfen Sie als Kopie haben.\",
-  drop: \"Kartendateien hierher ziehen, oder wählen\", choose: \"Dateien wählen\", sent: (n, all) => `${n} von ${all} gesendet`,
-  broken: (name) => `${name}: keine Datei einer Fahrerkarte, oder beschädigt. Nichts wurde aufgenommen.`, tooLarge: (name) => `${name}: zu groß (höchstens 262.144 Bytes). Nicht gesendet.`, refused: (name, line) => `${name}: abgelehnt (${line}). Nichts wurde aufgenommen.`,
-  number: \"Nummer\", base: \"Geprüft ab\",
-  fileName: \"Datei\",
-  stopped: \"Angehalten. Nichts wurde geändert.\",
-  breach: \"Verstoß\",
-  sendAgain: \"Noch einmal senden\",
-  entries: \"Einträge\",
-  withdrawn: (a, b) => (a === b ? `Eintrag ${a} ist zurückgezogen.` : `Die Einträge ${a} bis ${b} sind zurückgezogen.`),
+  leftLong: \"spätester Beginn der täglichen Ruhezeit von 11 h: die drei kurzen sind verbraucht\",
+  leftWeekly: \"spätester Beginn der Wochenruhe\",
+  leftUsed: (r, e) => `Reduzierte tägliche Ruhen: ${r} von 3 · Tage über 9 h: ${e} von 2`,
+  driven: (n) => `gelenkt ${n}`,
+  of: \"von\",
 };
-/** `8(6b)` is Artikel 8 Absatz 6b. */
-function germanArticle(a) {
-  const [, article, paragraph] = /^(\\d+)(?:\\((\\w+)\\))?$/.exec(a);
-  return `Artikel ${article}${paragraph ? ` Absatz ${paragraph}` : \"\"}`;
+"
 }
+
+/// The text at `/shared/words-en.js`.
+fn shared_words_en_js() -> &'static str {
+    "// The English sentences of both pages. words-de.js has the same names in the same order.
+const NB = \"\\u00a0\";
+const two = (n) => String(n).padStart(2, \"0\");
+export const many = (n, one, more) => `${n}${NB}${n === 1 ? one : more}`;
+const hours = (n) => `${Math.floor(n / 60)}${NB}h${n % 60 ? `${NB}${two(n % 60)}` : \"\"}`;
+const length = (n) => (n >= 60 ? hours(n) : `${n}${NB}min`);
+const ordinal = (n) => n + ((Math.floor(n / 10) % 10 !== 1 && [\"th\", \"st\", \"nd\", \"rd\"][n % 10]) || \"th\");
+const DAYS = [\"Sun\", \"Mon\", \"Tue\", \"Wed\", \"Thu\", \"Fri\", \"Sat\"];
+const MONTHS = [\"January\", \"February\", \"March\", \"April\", \"May\", \"June\", \"July\", \"August\", \"September\", \"October\", \"November\", \"December\"];
+
+export const WORDS = {
+  // Times and lengths
+  lengthOf: length,
+  days: DAYS,
+  date: (y, m, d, w) => `${DAYS[w]} ${d}${NB}${MONTHS[m - 1].slice(0, 3)} ${y}`,
+  shortDate: (y, m, d, w) => `${DAYS[w]} ${d}${NB}${MONTHS[m - 1].slice(0, 3)}`,
+  month: (y, m) => `${MONTHS[m - 1]} ${y}`,
+  local: \"local\",
+  to: \"to\",
+  zoneNote: (zone, ahead) => `Times are local (${zone}, UTC${ahead}), with UTC, as on the card, beside them where it counts. Days and weeks of the rules begin at 00:00 UTC.`,
+
+  // The page
+  language: \"Language\",
+  cards: \"Card files\",
+  logOut: \"Log out\",
+  loggedOut: \"You are logged out.\",
+  busy: \"Asking the archive …\",
+  busyLong: \"Still waiting. The archive answers one request after another.\",
+  cancel: \"Stop waiting\",
+  retry: \"Try again\",
+  show: \"Show\",
+  foot: \"The archive's replies are proved, this page is only tested. It applies its reading of the rules to the hours that it has; this is no legal advice.\",
+
+  // What can go wrong
+  tooOften: \"Too many requests. Wait a few seconds, and try again.\",
+  noDriver: \"There is no driver with this number.\",
+  otherReply: (status, line) => `The archive gave an unexpected reply: ${status} ${line}`,
+
+  // A month
+  monthBefore: \"Month before\",
+  monthAfter: \"Month after\",
+  wholeMonth: \"Month\",
+  examinedAll: \"This month is examined as a whole.\",
+  notExamined: \"Not examined\",
+  notFrom: (a, b) => `${a} to ${b}`,
+  openEnd: (a) => `from ${a} on`,
+  unknown: \"It isn't known what happened from then on.\",
+  crew: \"There was a second driver. Driving with a second driver isn't examined.\",
+  beforeBase: (d) => `Before ${d}, from which this driver is examined, nothing was looked at.`,
+  restart: (d) => `The examination begins again on the next Monday, ${d}, without regard to what came before.`,
+  unknownGap: (a, b, l) => `Unknown are the ${l} from ${a} to ${b}.`,
+  noLooks: \"Where nothing is examined no breach is shown, whether there was one or not.\",
+  gaps: \"Unknown hours\",
+  noGaps: \"No hour of this month is missing, up to the end of what is known.\",
+  isWithdrawn: \"withdrawn\",
+
+  // Breaches. No sentence has a subject: none says who is to blame
+  breaches: \"Breaches\",
+  noBreach: \"No breach was found in what was examined of this month.\",
+  nothingExamined: \"Nothing of this month was examined, so no breach can be shown.\",
+  evidence: \"Why?\",
+  article: (a, kind) => `Regulation (EC) No 561/2006, Article ${a} (${kind})`,
+  B1: (a) => `${length(270 + a)} of driving without a full break of 45 minutes (or of 15 and then 30). The limit is 4 h 30.`,
+  B2: (a) => `The next rest of 9 h or more began ${length(a)} too late. It has to begin within 15 h of the start of the day.`,
+  B3: (a) => `${ordinal(3 + a)} daily rest since the last weekly rest of which less than 11 h lay within 24 h of the start of the day. The limit is 3.`,
+  B4: (a) => `${length(600 + a)} of driving in one day, from one rest of 9 h or more to the next. The limit is 10 h.`,
+  B5: (a) => `${length(540 + a)} of driving in one day, after two other days of the week with more than 9 h. The limit is two such days in a week.`,
+  B6: (a) => `${length(3360 + a)} of driving in one week. The limit is 56 h.`,
+  B7: (a) => `${length(5400 + a)} of driving in two consecutive weeks. The limit is 90 h.`,
+  B8: (a) => `The weekly rest began ${length(a)} too late. It has to begin within six times 24 h of the end of the last one.`,
+  B9: () => \"Two consecutive weeks have a weekly rest too few: they need two of 24 h or more, one of them of 45 h or more, and each rest counts once. Around leave an officer may count otherwise.\",
+  B10: (a) => `A weekly rest was ${length(a)} short of 45 h, and this wasn't made up in one piece by the end of the third week after it.`,
+  short: { B1: \"Break\", B2: \"Daily rest\", B3: \"Reduced daily rests\", B4: \"Daily driving\", B5: \"Extended days\", B6: \"Weekly driving\", B7: \"Driving in two weeks\", B8: \"Weekly rest\", B9: \"Weekly rests of two weeks\", B10: \"Rest not made up\" },
+  since: \"counted since\",
+  at: \"limit reached\",
+  late: (l) => `${l} late`,
+  lacking: (l) => `${l} lacking`,
+  overBy: (l) => `${l} over`,
+
+  // What shows a breach
+  ev: { break: \"full break\", drive: \"driving\", rest: \"rest\", day: \"day\", limit: \"24 h end\", weekly: \"weekly rest\", reduced: \"reduced rest\", week: \"week\", date: \"day\", from: \"weeks from\", owes: \"to make up\", main: \"main rest\" },
+  evHead: [\"\", \"from\", \"to\", \"length\", \"sum\"],
+  evHeadFormal: [\"\", \"from, UTC (local)\", \"to, UTC (local)\", \"length\", \"sum\"],
+  longest: (within, all) => within === all ? `The longest rest within these 24 h had ${within}.` : `Of the longest rest within these 24 h, ${within} lay in them (of ${all}).`,
+  knownTo: (at) => `Known and examined to ${at}. What comes after it isn't in the archive yet.`,
+  knownBefore: (at) => `Known to ${at}, before this month.`,
+  open: \"not known\",
+  within: (l) => `of which ${l} within the 24 h`,
+  inWeeks: (w) => `may count for the week from ${w}`,
+  room: (l) => `${l} could make up`,
+  atRest: \"at rest throughout\",
+
+  // The chart, and the days in numbers
+  chart: \"Chart\",
+  chartNote: (ahead) => `Hours are UTC, as on the card; local time is UTC${ahead}.`,
+  rest: \"rest\",
+  available: \"available\",
+  work: \"other work\",
+  drive: \"driving\",
+  withCrew: \"with a second driver\",
+  notKnown: \"unknown\",
+  unseen: \"not examined\",
+  mark: \"breach\",
+  sum: \"driven\",
+  sheet: \"Each day in numbers\",
+  sheetColumns: [\"Day (UTC)\", \"Rest\", \"Available\", \"Other work\", \"Driving\", \"Second driver\", \"Unknown\"],
+  notYet: (a, b) => (a === b.slice(0, a.length) ? `${b}: not yet` : `${a} to ${b}: not yet`),
+
+  // Rest to be made up
+  debts: \"Rest to be made up\",
+  noDebts: \"No reduced weekly rest is known that still has to be made up.\",
+  debt: (week, n, by) => `${n} for the week from ${week}: in one piece, beside a rest of 9 h or more, before ${by}.`,
+  debtLate: (week, n, by) => `${n} for the week from ${week} had to be taken before ${by}. It wasn't taken by then.`,
+  debtBroken: (week, n, by) => `${n} for the week from ${week}, before ${by}: it isn't known whether it was taken, since the hours after it aren't known.`,
+  debtPaid: (n) => many(n, \"earlier one made up\", \"earlier ones made up\"),
+  debtWas: (week, n, at) => `${n} for the week from ${week}: made up with the rest of ${at}.`,
+
+  // What is left
+  left: \"What is left\",
+  colHeld: \"Known to\",
+  startAt: \"Start of driving (local time)\",
+  leftAssume: \"Assumes rest from the last known hour until the start. Whatever was driven since isn't in it.\",
+  leftStale: (n) => `Known only to ${n} days before the start: don't rely on it`,
+  noLeft: \"No card file yet.\",
+  leftBreak: \"until a full break of 45 min\",
+  leftDay: \"of driving in the day\",
+  leftDay9: \"of driving in the day (10 h twice a week, both used)\",
+  leftWeek: \"of driving this week\",
+  leftTwo: \"of driving in this week and the last\",
+  leftRest: (t) => `latest start of a daily rest of 9 h (of 11 h: ${t})`,
+  leftShort: \"latest start of a daily rest of 9 h (it is too late for one of 11 h)\",
+  leftLong: \"latest start of the daily rest of 11 h: the three short rests are used\",
+  leftWeekly: \"latest start of the weekly rest\",
+  leftUsed: (r, e) => `Reduced daily rests: ${r} of 3 · days over 9 h: ${e} of 2`,
+  driven: (n) => `driven ${n}`,
+  of: \"of\",
+};
 "
 }
