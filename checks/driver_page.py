@@ -401,10 +401,12 @@ def replies_of_nginx(site: Site) -> Comparisons:
         yield f"{method} /me/cards/both with uploads open", (told[0], told[1].get("cache-control")), (wanted, "no-store")
 
 
-# Makes a clock begin at a minute, in each document that is loaded from then on. `clockIsAt` changes it.
+# Makes a clock begin at a minute, in each document that is loaded from then on. Waits are shorter by the factor `hurry`.
 CLOCK_SCRIPT = """(() => {
     const Real = Date;
     let shift = %d - Real.now();
+    const wait = setTimeout;
+    globalThis.setTimeout = (act, milliseconds) => wait(act, milliseconds / (globalThis.hurry ?? 1));
     globalThis.Date = class extends Real {
         constructor(...parts) {
             super(...(parts.length === 0 ? [Real.now() + shift] : parts));
@@ -814,6 +816,29 @@ def faults(page: Page, address: str) -> Comparisons:
         sign_in(page, "anna-key-1")
 
 
+def silence(page: Page) -> Comparisons:
+    """Readings that get no reply: 35 seconds after the last reply the page ends them all, by waits that are 20 times as short."""
+    sign_in(page, "anna-key-1")
+    page.run(f"""window.hurry = 20; window.last = 0; window.ended = []; window.fetch = async (path, options) => {{
+        if (/debts|why/.test(path)) {{
+            await new Promise((_, end) => options.signal.addEventListener("abort", () => {{
+                window.ended.push(performance.now() - window.last);
+                end(options.signal.reason);
+            }}));
+        }}
+        const late = [["sheet", 20000], ["spans", 40000]].find(([what]) => path.includes(what));
+        await new Promise((done) => setTimeout(done, late?.[1] ?? 0));
+        window.last = performance.now();
+        return window.kept(path, options);
+    }}; {RENEW} document.querySelector("#choose").requestSubmit(); null""")
+    page.until(f"""{MESSAGE} !== "" """)
+    told = page.run(f"""[{MESSAGE}, document.querySelector("#again").textContent, window.ended.length,
+        window.ended.every((one) => one > 1749)]""")
+    yield "readings without a reply", told, [DOWN, "Try again", 2, True]
+    page.run("window.fetch = window.kept; window.hurry = 1; document.querySelector('#again').click(); null")
+    yield "then they are asked for again", page.until("""!document.querySelector("#hours").hidden"""), True
+
+
 def too_many(page: Page) -> Comparisons:
     """Replies of 429: what is shown stays, the page waits and asks again by itself, and what it has got it doesn't ask for again."""
     page.run("""window.count = {}; window.fetch = async (path, ...others) => {
@@ -1098,6 +1123,7 @@ def pages(site: Site, pictures: str) -> Comparisons:
         yield from other_starts(site, page)
         yield from faults(page, shut)
         yield from too_many(page)
+        yield from silence(page)
         yield from spoiled(page, shut)
         yield from downloads(site, page)
         page.call("Page.removeScriptToEvaluateOnNewDocument", identifier=script)

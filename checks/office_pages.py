@@ -16,6 +16,7 @@ import json
 import os
 import random
 import re
+import select
 import shutil
 import subprocess
 import sys
@@ -95,7 +96,7 @@ class Pages:
 
     def fail(self, begin: str, way: Any, count: int = 1) -> None:
         """Lets the next requests fail: `before` and `after` break the connection before or after the program got it; a status, a
-        type and a body are a reply of another server; a function changes the bytes of the program's reply."""
+        type and a body are a reply of another server; a function changes the bytes of the program's reply; `never` gives none."""
         self.faults.append([begin, way, count])
 
     def fault_of(self, request: str) -> Any:
@@ -115,6 +116,9 @@ class Pages:
             self.asked.append(request)
         way = self.fault_of(request)
         if way == "before":
+            return
+        if way == "never":
+            select.select([handler.connection], [], [], browser.SECONDS)  # until the browser closes it
             return
         if isinstance(way, tuple):
             self.reply(handler, way[0], {"content-type": way[1]}, way[2])
@@ -490,6 +494,8 @@ CLOCK = """(() => {
         static now() { return Real.now() + moved + (globalThis.later ?? 0); }
     }
     globalThis.Date = Moved;
+    const wait = setTimeout;
+    globalThis.setTimeout = (act, milliseconds) => wait(act, milliseconds / (globalThis.hurry ?? 1));
 })()"""
 
 
@@ -1310,11 +1316,52 @@ def faults(office: Office) -> Comparisons:
         yield f"one changed byte of {path}", (office.text("#content .box"), office.texts(".breach, .day, #content td")), (unreadable, [])
         pages.faults.clear()
     office.go("/", "table.cards")
-    pages.fail("GET /overview", (429, "text/html", b"<html>"))
-    office.run(f"location.hash = '/month/{MONTH}'")
-    yield "too many requests", office.until("/asks again by itself/.test(document.querySelector('#busy').textContent)"), True
+    waits = "/asks again by itself/.test(document.querySelector('#busy').textContent)"
+    pages.fail(f"GET /drivers/{CHANGED}/why", (429, "text/html", b"<html>"))
+    before = len(pages.asked)
+    office.run(f"location.hash = '/drivers/{CHANGED}/{MONTH_BEFORE}'")
+    yield "too many requests", office.until(waits), True
+    time.sleep(1)
+    yield "that is said as long as the page waits", office.run(waits), True
     yield "the page's content stays", office.text("#title").startswith("Drivers on"), True
-    yield "then the page comes by itself", office.until("/^All drivers in/.test(document.querySelector('#title').textContent)"), True
+    yield "then the page comes by itself", office.until("document.querySelector('.chart') !== null"), True
+    asked = [one.split("/")[3] for one in pages.asked[before:]]
+    yield "what it has got isn't asked for again", {name: asked.count(name) for name in ("files", "sheet", "spans", "why", "debts")}, {
+        "files": 2, "sheet": 1, "spans": 1, "why": 2, "debts": 1}
+    pages.fail("GET /forecast", (429, "text/html", b"<html>"))
+    office.go("/", "table.cards")
+    yield "too many requests while the page is shown", office.until(waits), True
+    yield "then nothing is said", office.until("document.querySelector('#busy').textContent === ''"), True
+
+
+def silence(office: Office) -> Comparisons:
+    """A reading that gets no reply: after 35 seconds the page ends it, by waits that are 20 times as short. Readings that are slow but come
+    are waited for."""
+    pages = office.site.pages
+
+    def slow(told: bytes) -> bytes:
+        """A reply that comes late."""
+        time.sleep(1.25)
+        return told
+
+    office.go("/", "table.cards")
+    office.run("globalThis.hurry = 20")
+    for path in ("files", "entries", "sheet"):
+        pages.fail(f"GET /drivers/{CHANGED}/{path}", slow)
+    office.go(f"/drivers/{CHANGED}/{MONTH_BEFORE}", ".chart")
+    yield "replies after 25 seconds each", office.text("#title").startswith(MARKUP), True
+    office.run("globalThis.hurry = 1")
+    office.go("/people", "table.cards")
+    office.run("globalThis.hurry = 20")
+    pages.fail(f"GET /drivers/{CHANGED}/spans", "never")
+    office.go(f"/drivers/{CHANGED}/{MONTH_BEFORE}", ".box.bad")
+    yield "no reply in 35 seconds", office.texts("#content .box, #content button"), [
+        "The archive can't be reached at the moment. Nothing that was saved is lost. Try again in a minute; if that doesn't help, ask "
+        "whoever keeps the service.", "Try again"]
+    office.run("globalThis.hurry = 1")
+    office.mark()
+    office.press_button("Try again")
+    yield "then it is tried again", office.shown(".chart"), True
 
 
 def versions(office: Office) -> Comparisons:
@@ -1428,7 +1475,7 @@ def comparisons(program: str, pictures: str | None = None) -> Comparisons:
             for part in (
                 signing_in, registering, importing, contradiction, broken_uploads, start_page, months, all_drivers, what_is_left,
                 spring_gap,
-                autumn_gap, withdrawals, letters, inspection, changes, faults, versions, sessions,
+                autumn_gap, withdrawals, letters, inspection, changes, faults, silence, versions, sessions,
             ):
                 yield from part(office)
             yield from looks(office, kept)

@@ -11,7 +11,7 @@ import { addWords, LANGUAGES, languageNow, say, speak } from "/shared/say.js";
  *  requests, the parts of its address, and how to show it anew */
 /** @typedef {{ head: string, cell: (row: any) => Content, kind?: string, kindOf?: (row: any) => string }} Column a column of a list */
 
-const IDLE = 30 * 60_000, PATIENCE = 35_000;
+const IDLE = 30 * 60_000;
 
 // What pages leave to others. A log-out clears it.
 
@@ -109,36 +109,16 @@ export function momentField(id, label, start) {
 /** @type {Promise<unknown>} */
 let queue = Promise.resolve();
 
-/** Says that there were too many requests, and that the page asks again.
+/** Says that there were too many requests, and that the page asks again. What takes long says no more beside it.
  * @type {(seconds: number) => void} */
-export const tellWait = (seconds) => tellBusy(say.askAgain(seconds), true);
-
-/** A reading. Where no reply comes within a time, it is given up.
- * @type {(path: string, signal: AbortSignal) => Promise<string>} */
-async function inTime(path, signal) {
-  signal.throwIfAborted();
-  const late = new AbortController();
-  let timer = setTimeout(() => late.abort(), PATIENCE);
-  const wait = (seconds) => {
-    tellWait(seconds);
-    clearTimeout(timer);
-    timer = setTimeout(() => late.abort(), PATIENCE + 1000 * seconds);
-  };
-  try {
-    return await reading(path, { signal: AbortSignal.any([signal, late.signal]), wait });
-  } catch (fault) {
-    throw late.signal.aborted && !signal.aborted ? new Problem("noReply") : fault;
-  } finally {
-    clearTimeout(timer);
-  }
-}
+export const tellWait = (seconds) => { timers.forEach(clearTimeout); tellBusy(say.askAgain(seconds), true); };
 
 /** A reading, once the readings before it have ended: the archive answers one after the other, and a wrong key is sent once.
  * @type {(path: string, signal: AbortSignal) => Promise<string>} */
 export function ask(path, signal) {
-  const mine = queue.then(() => inTime(path, signal));
+  const mine = queue.then(() => reading(path, { signal, wait: tellWait }));
   queue = mine.then(() => undefined, () => undefined);
-  return mine;
+  return busy(mine);
 }
 
 /** @type {(fault: any) => string} the sentence of a fault of a reading */
