@@ -837,6 +837,8 @@ def silence(page: Page) -> Comparisons:
     yield "readings without a reply", told, [DOWN, "Try again", 2, True]
     page.run("window.fetch = window.kept; window.hurry = 1; document.querySelector('#again').click(); null")
     yield "then they are asked for again", page.until("""!document.querySelector("#hours").hidden"""), True
+    page.run("""sessionStorage.clear(); dispatchEvent(new PageTransitionEvent("pageshow", { persisted: true })); null""")
+    yield "the way back to a page after a log-out elsewhere", (page.run(FORMS), page.run(HAS_DATA)), (["sign-in"], False)
 
 
 def too_many(page: Page) -> Comparisons:

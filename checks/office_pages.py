@@ -1390,6 +1390,9 @@ def sessions(office: Office) -> Comparisons:
          "You are logged out: for half an hour no key was pressed and nothing was clicked."),
         ("the way back", lambda: office.run("(dispatchEvent(new PageTransitionEvent('pageshow', { persisted: true })), 0)"),
             "You are logged out."),
+        ("the way back after a log-out elsewhere",
+            lambda: office.run("(sessionStorage.clear(), dispatchEvent(new PageTransitionEvent('pageshow', { persisted: true })), 0)"),
+            "You are logged out."),
     ]:
         office.go("/", "table.cards")
         if name == "half an hour":

@@ -395,7 +395,8 @@ addEventListener("keydown", stay, true);
 addEventListener("pointerdown", stay, true);
 setInterval(leaveIfIdle, 5000);
 document.addEventListener("visibilitychange", leaveIfIdle);
-addEventListener("pageshow", (event) => { if (event.persisted && key() !== null) logOut(notice("good", say.loggedOut)); });
+// The browser may keep the page while another is shown, whose log-out this one knows nothing of.
+addEventListener("pageshow", (event) => { if (event.persisted) logOut(notice("good", say.loggedOut)); });
 addEventListener("beforeunload", (event) => { if (unfinished.size > 0) event.preventDefault(); });
 $("skip").addEventListener("click", (event) => { event.preventDefault(); $("content").focus(); });
 addEventListener("hashchange", () => render());
