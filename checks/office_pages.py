@@ -1121,6 +1121,7 @@ def autumn_gap(office: Office) -> Comparisons:
     yield "the button is dead", office.run("document.querySelector('#save').disabled"), True
     office.press_button("Look again")
     yield "then it is known", office.until("/Nothing was saved/.test(document.querySelector('#gaps-told').textContent)"), True
+    office.run("document.querySelectorAll('.gap')[1].querySelector('input[value=\"\"]').click()")  # so that the page may be left
 
 
 def withdrawals(office: Office) -> Comparisons:
@@ -1364,6 +1365,43 @@ def silence(office: Office) -> Comparisons:
     yield "then it is tried again", office.shown(".chart"), True
 
 
+ROWS_SAID = "[...document.querySelectorAll('.gap input:checked')].map((one) => one.value).filter((one) => one !== '')"
+IS_KEPT = """(() => {
+    const event = new Event("beforeunload", { cancelable: true });
+    dispatchEvent(event);
+    return event.defaultPrevented;
+})()"""
+
+
+def leaving(office: Office) -> Comparisons:
+    """The form for gaps with a row that is filled in: each way out of it asks first."""
+    here, others = f"/drivers/{WRONG}/gaps", f"/drivers/{BOTH_NIGHTS}/gaps"
+    question = "Hours are filled in here and not saved.Leave without savingStay"
+    for name, leave, title in [
+        ("a link", lambda: office.press_button("Card files"), "Card files"),
+        ("another driver's gaps", lambda: office.run(f"location.hash = '{others}'"), "Eva Lund: Unknown hours"),
+        ("the way back", lambda: office.run("(history.back(), 0)"), "Manage drivers"),
+        ("another language", lambda: office.set("#language", "de"), f"{SEPARATED}: Unbekannte Stunden"),
+    ]:
+        office.go("/people", "table.cards")
+        office.go(here, ".gap")
+        yield f"{name}: the tab without a row", office.run(IS_KEPT), False
+        pick(office, 0, "rest")
+        yield f"{name}: the tab with a row", office.run(IS_KEPT), True
+        leave()
+        office.until("document.querySelector('dialog[open]') !== null")
+        yield f"{name}: the question", (office.text("dialog[open]"), office.run("location.hash")), (question, f"#{here}")
+        office.press_button("Stay")
+        office.until("document.querySelector('dialog') === null")
+        yield f"{name}: to stay", office.run(f"[location.hash, {ROWS_SAID}, document.querySelector('#language').value]"), [
+            f"#{here}", ["rest"], "en"]
+        leave()
+        office.confirm()
+        yield f"{name}: to leave", office.until(f"document.querySelector('#title').textContent === {json.dumps(title)}"), True
+        yield f"{name}: then nothing is asked", office.run(f"[document.querySelector('dialog'), {IS_KEPT}]"), [None, False]
+    office.speak("en")
+
+
 def versions(office: Office) -> Comparisons:
     """A program of another version than the pages that are loaded: the page says so."""
     office.page.open("about:blank")
@@ -1478,7 +1516,7 @@ def comparisons(program: str, pictures: str | None = None) -> Comparisons:
             for part in (
                 signing_in, registering, importing, contradiction, broken_uploads, start_page, months, all_drivers, what_is_left,
                 spring_gap,
-                autumn_gap, withdrawals, letters, inspection, changes, faults, silence, versions, sessions,
+                autumn_gap, withdrawals, letters, inspection, changes, leaving, faults, silence, versions, sessions,
             ):
                 yield from part(office)
             yield from looks(office, kept)

@@ -87,7 +87,7 @@ class GapForm {
     this.told.textContent = say.rows(count);
     this.save.disabled = count === 0 || this.isSending;
     unfinished.delete("gaps");
-    if (count) unfinished.add("gaps");
+    if (count && this.node.isConnected) unfinished.add("gaps"); // a reply may come when another page is shown
   }
 
   /** @type {() => Piece[]} the pieces that are to be saved */

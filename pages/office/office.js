@@ -67,11 +67,11 @@ export function listTable(columns, rows, body = h("tbody", { role: "rowgroup" })
 }
 
 /** Asks a question in a dialog. Resolves to whether the action was chosen.
- * @type {(question: string, action: string) => Promise<boolean>} */
-export const confirmed = (question, action) => new Promise((resolve) => {
+ * @type {(question: Content, action: string, other?: string) => Promise<boolean>} */
+export const confirmed = (question, action, other = say.keepIt) => new Promise((resolve) => {
   const dialog = h("dialog", { "aria-labelledby": "question", onclose: () => { dialog.remove(); resolve(dialog.returnValue === "yes"); } },
     h("p", { id: "question" }, question),
-    h("div", { class: "row" }, button(action, () => dialog.close("yes"), { class: "main" }), button(say.keepIt, () => dialog.close(""))));
+    h("div", { class: "row" }, button(action, () => dialog.close("yes"), { class: "main" }), button(other, () => dialog.close(""))));
   document.body.append(dialog);
   dialog.showModal();
 });
@@ -183,7 +183,11 @@ function showFrame(to) {
   const isAt = (where) => (where === "/" ? to === "/" : to.startsWith(where.startsWith("/month") ? "/month" : where));
   $("nav").replaceChildren(...(isIn ? places.map(([where, text]) => link(where, text, { "aria-current": isAt(where) ? "page" : null }))
     : []));
-  const change = (language) => { speak(language); render(); };
+  const change = async (language) => {
+    if (!await mayLeave()) { showFrame(to); return; }
+    speak(language);
+    render();
+  };
   const select = languageField(languageNow(), change, { id: "language", class: "small", "aria-label": say.language });
   $("tools").replaceChildren(select, ...(isIn ? [button(say.logOut, leave, { class: "small", id: "log-out" })] : []));
 }
@@ -226,13 +230,31 @@ async function contentOf(to, signal, again) {
   return module.page({ signal, args: found[0].exec(to).slice(1), again });
 }
 
+/** The address of what is shown, or is about to be. */
+let place = "";
+
+/** Whether the page may be left: where hours are filled in and not saved it asks, once at a time.
+ * @type {() => Promise<boolean>} */
+const mayLeave = async () => !unfinished.has("gaps")
+  || ($("question") === null && await confirmed(say.leaveGaps, say.leaveUnsaved, say.stay));
+
+/** Shows the page of another address, if this one may be left. Until that is answered, the address is that of what is shown.
+ * @type {() => Promise<void>} */
+async function follow() {
+  if (!unfinished.has("gaps")) { render(); return; }
+  history.pushState(null, "", `#${place}`);
+  if (!await mayLeave()) return;
+  unfinished.delete("gaps");
+  history.back();
+}
+
 /** Shows the page of the address. Its content stays until the next one is there.
  * @type {(notice?: Node | null) => Promise<void>} */
 async function render(told = null) {
   current.abort();
   unfinished.delete("gaps");
   const mine = new AbortController(), to = address();
-  current = mine;
+  [current, place] = [mine, to];
   showFrame(to);
   if (key() === null) { showSignIn(told); return; }
   let made;
@@ -399,5 +421,5 @@ document.addEventListener("visibilitychange", leaveIfIdle);
 addEventListener("pageshow", (event) => { if (event.persisted) logOut(notice("good", say.loggedOut)); });
 addEventListener("beforeunload", (event) => { if (unfinished.size > 0) event.preventDefault(); });
 $("skip").addEventListener("click", (event) => { event.preventDefault(); $("content").focus(); });
-addEventListener("hashchange", () => render());
+addEventListener("hashchange", follow);
 render();

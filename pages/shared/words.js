@@ -78,6 +78,8 @@ export const WORDS = {
     // the office: gaps and entries
     entries: "Entries",
     withdrawn: (a, b) => (a === b ? `Entry ${a} is withdrawn.` : `Entries ${a} to ${b} are withdrawn.`),
+    // added
+    leaveGaps: "Hours are filled in here and not saved.", leaveUnsaved: "Leave without saving", stay: "Stay",
   },
 };
 WORDS.de = {
@@ -131,6 +133,8 @@ WORDS.de = {
   sendAgain: "Noch einmal senden",
   entries: "Einträge",
   withdrawn: (a, b) => (a === b ? `Eintrag ${a} ist zurückgezogen.` : `Die Einträge ${a} bis ${b} sind zurückgezogen.`),
+  // added
+  leaveGaps: "Hier sind Stunden ausgefüllt und nicht gespeichert.", leaveUnsaved: "Verlassen, ohne zu speichern", stay: "Bleiben",
 };
 /** `8(6b)` is Artikel 8 Absatz 6b. */
 function germanArticle(a) {
