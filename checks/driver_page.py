@@ -61,7 +61,8 @@ SHOWN = """(() => {
         breaches: document.querySelector("#breaches li.breach") === null ? [texts("#breaches p")]
             : of(document, "#breaches li.breach").map(breach),
         more: texts("#breaches .more > summary"),
-        evidence: of(document, "#breaches li.breach").map((one) => of(one, "tbody tr").map((row) => texts("th, td", row))),
+        evidence: of(document, "#breaches li.breach").map((one) =>
+            of(one, "tbody tr, .evidence + .note").map((row) => row.matches("tr") ? texts("th, td", row) : [row.textContent])),
         others: texts("#others summary, #others a"),
         examined: texts("#not-examined > p, #not-examined li, #not-examined .box > p"),
         debts: texts("#debts > p, #debts li"),

@@ -29,7 +29,7 @@ from typing import Any
 
 from inputs import hard_timelines, random_cards
 from inputs.random_cards import ACTIVITY, IDENTIFICATION, activity_data, block, record, word
-from lib import browser, counting, rules, tars
+from lib import browser, counting, driver_month, rules, tars
 from lib.browser import Browser, Fault, Page
 from lib.counting import Comparisons
 from lib.files import TOP, read, write
@@ -270,11 +270,11 @@ class Site:
         self.pages.__exit__()
         self.serving.__exit__()
 
-    def ask(self, path: str, key: str = OFFICE) -> tuple[int, bytes]:
-        """The status and body of the program's own reply."""
+    def ask(self, path: str, key: str = OFFICE, body: bytes | None = None) -> tuple[int, bytes]:
+        """The status and body of the program's own reply; with a body, to a command."""
         connection = http.client.HTTPConnection("127.0.0.1", self.serving.port, timeout=60)
         with contextlib.closing(connection):
-            connection.request("GET", path, headers={"x-key": key})
+            connection.request("GET" if body is None else "POST", path, body, {"x-key": key})
             reply = connection.getresponse()
             return reply.status, reply.read()
 
@@ -1402,6 +1402,38 @@ def leaving(office: Office) -> Comparisons:
     office.speak("en")
 
 
+def by_hand(office: Office) -> Comparisons:
+    """The marks of evidence that was entered by hand: hours that were unknown, hours that the card has too, and a withdrawn entry."""
+    path = f"/drivers/{WRONG}"
+    runs = re.findall(r"^  drive (.{16}) (.{16}) ", office.site.text(f"{path}/why/{MONTH_BEFORE}"), re.MULTILINE)
+    given = [("2024-10-16 07:13", "2024-10-16 08:13", "drive"), ("2024-10-16 08:13", "2024-10-18 22:41", "rest"),
+             (*runs[0], "drive"), (*runs[-1], "drive")]
+    for row in given:
+        yield f"entered {row}", office.site.ask(f"{path}/entries", body=f"start,past,activity\n{','.join(row)}\n".encode())[0], 201
+    yield "one is withdrawn", office.site.ask(f"{path}/withdraw/4", body=b"")[0], 200
+    entries = driver_month.kept_entries(office.site.text(f"{path}/entries"))
+    why = [(found[1], [line[2:] for line in evidence]) for found, evidence in Month(office.site, WRONG, MONTH_BEFORE).why]
+    marks = [[driver_month.is_by_hand(line, entries) for line in evidence] for kind, evidence in why if kind != "B9"]
+    yield "lines of both kinds", {mark for one in marks for mark in one}, {True, False}
+    ready = [driver_month.is_by_hand(line, entries) for found, evidence in Month(office.site, WRONG, MONTH_BEFORE).why
+             if found[1] != "B9" and not is_open(found[1], evidence) for line in [one[2:] for one in evidence]]
+    seen = """[...document.querySelectorAll('.breach:not([id^=breach-B9])')].map((one) =>
+        [[...one.querySelectorAll('tbody th')].map((head) => head.textContent.endsWith(%s)),
+            [...one.querySelectorAll('.evidence + .note')].map((note) => note.textContent)])"""
+    for language, (mark, said) in driver_month.HAND.items():
+        office.speak(language)
+        office.go(f"{path}/{MONTH_BEFORE}", ".chart")
+        yield f"the month {language}", office.run(seen % json.dumps(mark)), [[one, [said] * any(one)] for one in marks]
+        office.go(f"{path}/{MONTH_BEFORE}/letter", ".sheet")
+        office.mark()
+        office.set("#letter-language", language)
+        office.shown(".sheet")
+        told = office.run(seen % json.dumps(mark))
+        yield f"the letter {language}", ([mark for one, _ in told for mark in one], [notes for _, notes in told]), (
+            ready, [[said] * any(one) for one, _ in told])
+    office.speak("en")
+
+
 def versions(office: Office) -> Comparisons:
     """A program of another version than the pages that are loaded: the page says so."""
     office.page.open("about:blank")
@@ -1521,6 +1553,7 @@ def comparisons(program: str, pictures: str | None = None) -> Comparisons:
                 yield from part(office)
             yield from looks(office, kept)
             yield from budget(office)
+            yield from by_hand(office)
             yield from quiet(office)
 
 

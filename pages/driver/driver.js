@@ -400,13 +400,14 @@ function monthField(month) {
  * The month's breaches: the first ones, and the others folded up.
  * @param {ShownBreach[]} why
  * @param {boolean} isSeen whether a minute of the month is examined
+ * @param {Entry[]} entries
  * @returns {Child}
  */
-function breachList(why, isSeen) {
+function breachList(why, isSeen, entries) {
   if (why.length === 0) {
     return h("p", {}, isSeen ? say.noBreach : say.nothingExamined);
   }
-  const list = (/** @type {ShownBreach[]} */ some) => h("ul", { class: "list" }, some.map((breach) => breachItem(breach)));
+  const list = (/** @type {ShownBreach[]} */ some) => h("ul", { class: "list" }, some.map((breach) => breachItem(breach, { entries })));
   const others = why.slice(FIRST_BREACHES);
   return [
     list(why.slice(0, FIRST_BREACHES)),
@@ -472,7 +473,7 @@ function entriesPart({ month, entries }) {
  * @returns {Child[]}
  */
 function monthParts(month) {
-  const { sheet, spans, stretches, why, debts, end } = month;
+  const { sheet, spans, stretches, why, debts, entries, end } = month;
   const range = rangeOf(month.month);
   const unseen = unseenOf(stretches, range);
   const isSeen = unseen.reduce((sum, one) => sum + one.past - one.start, 0) < range[1] - range[0];
@@ -485,7 +486,7 @@ function monthParts(month) {
     leftPart(month),
     monthHead(month),
     h("h2", { id: "breaches-head" }, `${say.breaches}${why.length > 0 ? `: ${why.length}` : ""}`),
-    h("div", { id: "breaches" }, breachList(why, isSeen)),
+    h("div", { id: "breaches" }, breachList(why, isSeen, entries)),
     otherMonths(month),
     h("section", { class: "keep", id: "chart" }, h("h2", {}, say.chart), chart({
       spans, gaps, breaches: why, unseen, days, range, labelledBy: "chart-name title month-head", describedBy: "breaches",

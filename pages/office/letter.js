@@ -33,10 +33,10 @@ function sourceLine(files, entries, program) {
     ` ${say.foot}`, entries.length ? ` ${say.letterHand} ${entries.map(entryText).join("; ")}.` : "");
 }
 
-/** The sheet that is printed, in the language that is set.
- * @type {(parts: { person: any, ready: any[], files: any[], entries: any[], program: string, month: string, language: string }) =>
- *  HTMLElement} */
-function sheetOf({ person, ready, files, entries, program, month, language }) {
+/** The sheet that is printed, in the language that is set. `ofMonth` are the month's entries; evidence may be of earlier months.
+ * @type {(parts: { person: any, ready: any[], files: any[], entries: any[], ofMonth: any[], program: string, month: string,
+ *  language: string }) => HTMLElement} */
+function sheetOf({ person, ready, files, entries, ofMonth, program, month, language }) {
   const { field, printed } = sender();
   const day = (minute) => localMoment(minute, true).slice(0, -6);
   return h("article", { class: "sheet", lang: language },
@@ -45,9 +45,9 @@ function sheetOf({ person, ready, files, entries, program, month, language }) {
     h("h2", {}, say.letterHead(monthName(month))), h("p", {}, say.dear(person.name)),
     ready.length === 0 ? h("p", {}, say.letterNone) : [
       h("p", {}, say.letterIntro(ready.length, monthName(month))),
-      h("ol", { class: "list" }, ready.map((one, k) => breachItem(one, { formalTimes: true, number: k + 1 }))),
+      h("ol", { class: "list" }, ready.map((one, k) => breachItem(one, { formalTimes: true, number: k + 1, entries }))),
       h("div", { class: "end" }, h("p", {}, `${say.letterAsk} ${day(now() + DAYS_TO_ANSWER * DAY)}.`), h("p", {}, say.letterInstruct),
-        sourceLine(files, entries, program),
+        sourceLine(files, ofMonth, program),
         h("h3", {}, say.answer), Array.from({ length: ANSWER_LINES }, () => h("div", { class: "lines" })),
         h("div", { class: "signs" }, h("div", {}, say.forOffice, h("br"), say.signed), h("div", {}, say.forDriver, h("br"), say.signed)))]);
 }
@@ -70,7 +70,7 @@ export async function page({ signal, args: [driver, month], again }) {
     h("p", { class: "note" }, `${say.from}: ${say.senderHelp}`)),
   withLanguage(language, () => sheetOf({
     person, ready, month, language, program, files: files.filter(isWithin),
-      entries: entries.filter((one) => one.state === "kept" && isWithin(one)),
+      entries, ofMonth: entries.filter((one) => one.state === "kept" && isWithin(one)),
   }))];
 }
 

@@ -70,7 +70,7 @@ export async function page({ signal, args: [driver, month, day] }) {
   return [head([h("bdi", {}, sheet.name), ` (${driver}), ${monthName(month)}`], toolsOf(driver, month)), facts(sheet.total),
     notExaminedBox(stretches, range, end, gaps, link(`/drivers/${driver}/gaps`, say.gapForm)),
     h("h2", { id: "breaches-head" }, `${say.breaches}${breaches.length ? `: ${breaches.length}` : ""}`),
-    breaches.length ? h("ul", { class: "list", "aria-labelledby": "breaches-head" }, breaches.map((one) => breachItem(one)))
+    breaches.length ? h("ul", { class: "list", "aria-labelledby": "breaches-head" }, breaches.map((one) => breachItem(one, { entries })))
       : h("p", { id: "no-breach" }, seen > 0 ? say.noBreach : say.nothingExamined),
     h("section", { class: "keep" }, h("h2", {}, say.chart), shown),
     h("div", { class: "tellings" },

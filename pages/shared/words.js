@@ -79,6 +79,7 @@ export const WORDS = {
     entries: "Entries",
     withdrawn: (a, b) => (a === b ? `Entry ${a} is withdrawn.` : `Entries ${a} to ${b} are withdrawn.`),
     // added
+    byHand: "by hand", byHandHelp: "By hand: entered by hand, in part or whole.",
     leaveGaps: "Hours are filled in here and not saved.", leaveUnsaved: "Leave without saving", stay: "Stay",
   },
 };
@@ -134,6 +135,7 @@ WORDS.de = {
   entries: "Einträge",
   withdrawn: (a, b) => (a === b ? `Eintrag ${a} ist zurückgezogen.` : `Die Einträge ${a} bis ${b} sind zurückgezogen.`),
   // added
+  byHand: "von Hand", byHandHelp: "Von Hand: zum Teil oder ganz von Hand eingetragen.",
   leaveGaps: "Hier sind Stunden ausgefüllt und nicht gespeichert.", leaveUnsaved: "Verlassen, ohne zu speichern", stay: "Bleiben",
 };
 /** `8(6b)` is Artikel 8 Absatz 6b. */
