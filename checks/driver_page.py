@@ -496,6 +496,8 @@ def wrong_keys(page: Page) -> Comparisons:
 
 # The elements of names that might be read as markup.
 MARKUP = """document.querySelectorAll("#hours b:not(.meter b, #not-examined b), #hours script").length"""
+# The box of the driver's name, beyond which its signs change nothing.
+BOX = """(({ display, overflow }) => [display, overflow])(getComputedStyle(document.querySelector("#title bdi")))"""
 PARTS = ["heading", "left", "breaches", "more", "evidence", "others", "examined", "debts", "gaps", "table"]
 
 
@@ -515,6 +517,7 @@ def month_comparisons(name: str, page: Page, month: Month, language: str) -> Com
     for part in ("bars", "unknown", "unseen", "marks", "flags", "labels", "sum"):
         yield f"{name}: {part}", [day[part] for day in shown["days"]], [day[part] for day in days]
     yield f"{name}: markup from a text", page.run(MARKUP), 0
+    yield f"{name}: the box of the name", page.run(BOX), ["inline-block", "clip"]
 
 
 def months(site: Site, page: Page) -> Comparisons:

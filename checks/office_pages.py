@@ -225,8 +225,8 @@ def plainly(start: str, past: str) -> list[Span]:
 
 MARKUP = "<img src=x onerror=alert(1)>"
 COMBINED = "e" + "\u0301" * 31
-SEPARATED = "Ann\u2028Berg \u2029"
-TURNED = "\u202eBert Falk\u2066"
+SEPARATED = "Ann\u2028Berg\u0085 \u2029"
+TURNED = "\u2069\u202eBert Falk\u2066"
 BOTH_NIGHTS = 17
 CHANGED, WRONG, ABSENT, LATE, SOON, GONE, UNKNOWN = 11, 12, 14, 15, 18, 21, 30
 
@@ -1402,6 +1402,64 @@ def leaving(office: Office) -> Comparisons:
     office.speak("en")
 
 
+# The texts with a name that are in no element of their own, and those that don't stand after a name which they follow.
+LOOSE = """((names) => {
+    const walk = document.createTreeWalker(document.body, NodeFilter.SHOW_TEXT), found = [];
+    while (walk.nextNode()) {
+        const text = walk.currentNode;
+        if (names.some((name) => text.data.includes(name)) && text.parentElement.closest("bdi, option, textarea") === null) {
+            found.push(text.data);
+        }
+    }
+    for (const name of document.querySelectorAll("bdi")) {
+        const next = name.nextSibling, box = name.getBoundingClientRect(), { display, overflow } = getComputedStyle(name);
+        if (display !== "inline-block" || overflow !== "clip") found.push([name.textContent, display, overflow]);
+        if (next?.nodeType !== Node.TEXT_NODE) continue;
+        const after = document.createRange();
+        after.setStart(next, 0);
+        after.setEnd(next, 1);
+        const [at] = after.getClientRects();
+        if (at && at.left < box.right - 1 && at.bottom < box.bottom - 1) found.push([name.textContent, next.data]);
+    }
+    return found;
+})(%s)"""
+
+
+def names(office: Office) -> Comparisons:
+    """Names that are markup, end lines, turn the direction of writing, or pile up: wherever one stands, it changes nothing beside it."""
+    all_names = [MARKUP, SEPARATED, COMBINED, TURNED]
+    loose = LOOSE % json.dumps(all_names)
+    for address in [*ADDRESSES, *(f"/drivers/{driver}/{page}" for driver in (ABSENT, 13)
+                                  for page in (MONTH, f"{MONTH_BEFORE}/letter", "left", "gaps", "entries"))]:
+        office.go(address)
+        office.run("document.querySelectorAll('details').forEach((one) => { one.open = true; })")
+        yield f"names on {address}", office.run(loose), []
+    office.go(f"/drivers/{BOTH_NIGHTS}/entries", "table.cards")
+    yield "an author", (office.run(LOOSE % json.dumps(["Ed ", "roster 13"])), office.texts("td bdi")), (
+        [], [f"Ed {TURNED}", "", f"Ed {TURNED}", "roster 13; <b>paper</b>"])
+    office.go("/inspection", "#who")
+    shown = office.run("[...document.querySelectorAll('#who option')].map((one) => one.textContent)")
+    yield "names in a list to choose from", [one for one in shown if re.search("[\u202a-\u202e\u2066\u2067]", one)], []
+    office.set("#who", str(ABSENT))
+    office.mark()
+    office.run("document.querySelector('form').requestSubmit()")
+    office.shown("#save-tar")
+    yield "names of an inspection", office.run(loose), []
+    for number, name in [(number, name) for number, name, *_ in DRIVERS if name in all_names]:
+        office.go("/people", "table.cards")
+        row = f"[...document.querySelectorAll('#content tr')].find((one) => one.querySelector('small')?.textContent === ' {number}')"
+        office.run(f"{row}.querySelector('button').click()")
+        office.until("document.querySelector('dialog[open]') !== null")
+        yield f"{name!r} in a question", (office.texts("dialog bdi"), office.run(loose)), ([name], [])
+        office.press_button("Cancel")
+        office.mark()
+        office.run(f"(({{ form }}) => form.requestSubmit())({row}.querySelector('form input'))")
+        office.shown(".box")
+        kept = name.strip(" \u2028\u2029")  # the page sends it without blanks at its ends
+        yield f"{name!r} in what became of it", (office.notice(), office.texts(".box bdi"), office.run(loose)), (
+            f"The name is {kept} now.", [kept], [])
+
+
 def by_hand(office: Office) -> Comparisons:
     """The marks of evidence that was entered by hand: hours that were unknown, hours that the card has too, and a withdrawn entry."""
     path = f"/drivers/{WRONG}"
@@ -1548,7 +1606,7 @@ def comparisons(program: str, pictures: str | None = None) -> Comparisons:
             for part in (
                 signing_in, registering, importing, contradiction, broken_uploads, start_page, months, all_drivers, what_is_left,
                 spring_gap,
-                autumn_gap, withdrawals, letters, inspection, changes, leaving, faults, silence, versions, sessions,
+                autumn_gap, withdrawals, letters, inspection, changes, leaving, names, faults, silence, versions, sessions,
             ):
                 yield from part(office)
             yield from looks(office, kept)

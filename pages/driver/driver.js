@@ -2,7 +2,7 @@
 // `#` is the month; without one it is the last month that has data.
 import { SENTENCES } from "./sentences.js";
 import { KEY_FORM, Problem, bytes, forget, keep, key, reading, send, watch } from "/shared/ask.js";
-import { $, h, listed } from "/shared/dom.js";
+import { $, h, listed, written } from "/shared/dom.js";
 import { breachItem, chart, debtsPart, gapsPart, meters, notExaminedBox, sheetTable, undivided, unseenOf } from "/shared/parts.js";
 import { lengthOf, readAhead, readBreaches, readDebts, readEntries, readFiles, readGaps, readSheet, readSpans, readVersion, readWhy }
   from "/shared/read.js";
@@ -462,8 +462,8 @@ function entriesPart({ month, entries }) {
     return null;
   }
   const item = (/** @type {Entry} */ entry) => h("li", {},
-    `${both(entry.start)} ${say.to} ${both(entry.past)}: ${say[entry.activity]}, `, h("bdi", {}, entry.author),
-    entry.note ? [", ", h("bdi", {}, entry.note)] : null, entry.state === "withdrawn" ? ` (${say.withdrawn})` : "");
+    `${both(entry.start)} ${say.to} ${both(entry.past)}: ${say[entry.activity]}, `, written(entry.author),
+    entry.note ? [", ", written(entry.note)] : null, entry.state === "withdrawn" ? ` (${say.withdrawn})` : "");
   return h("details", { id: "entries" }, h("summary", {}, say.entered(inMonth.length)), h("ul", {}, inMonth.map(item)));
 }
 
@@ -482,7 +482,7 @@ function monthParts(month) {
   const isOver = (/** @type {{start: number}} */ day) => day.start < Math.max(end, now());
   const [days, later] = [sheet.days.filter(isOver), sheet.days.filter((day) => !isOver(day))];
   return [
-    h("h1", { id: "title", tabindex: "-1" }, h("bdi", {}, sheet.name)),
+    h("h1", { id: "title", tabindex: "-1" }, written(sheet.name)),
     leftPart(month),
     monthHead(month),
     h("h2", { id: "breaches-head" }, `${say.breaches}${why.length > 0 ? `: ${why.length}` : ""}`),

@@ -1,6 +1,6 @@
 // The frame of the office's pages: the key, the address after #, which names the page, and what several pages use. Each page is a module
 // that is loaded when it is first opened.
-import { $, h, listed } from "/shared/dom.js";
+import { $, h, listed, written } from "/shared/dom.js";
 import { KEY_FORM, Problem, forget, keep, key, reading } from "/shared/ask.js";
 import { localText, minutesOfLocal, monthOf, now, offsetText, textOf, zone } from "/shared/time.js";
 import { readVersion } from "/shared/read.js";
@@ -47,6 +47,14 @@ export const notice = (kind, ...children) =>
   h("div", { class: `box ${kind}`, role: kind === "bad" ? "alert" : "status", tabindex: "-1" }, h("p", {}, children));
 /** @type {() => HTMLElement} the line about local time */
 export const zoneLine = () => h("p", { class: "note" }, say.zoneNote(zone(), offsetText(now())));
+
+/** A sentence with texts that somebody wrote, each in its element. The sentence gets a sign of no script in place of each text, so that no
+ *  text is taken for another.
+ * @type {(sentence: (...texts: string[]) => string, ...texts: string[]) => Content} */
+export function telling(sentence, ...texts) {
+  const signs = texts.map((_, k) => String.fromCharCode(0xe000 + k));
+  return sentence(...signs).split(/([\ue000-\uf8ff])/).map((part, k) => (k % 2 ? written(texts[signs.indexOf(part)]) : part));
+}
 
 /** A row of a list.
  * @type {(columns: Column[], row: any) => HTMLElement} */

@@ -68,6 +68,16 @@ export function svg(name, attributes = {}, ...children) {
 }
 
 /**
+ * A text that somebody wrote, as a name, an author or a note. It may have signs that turn the direction of writing, end lines or pile up:
+ * they change nothing outside of its element (page.css).
+ * @param {string} text
+ * @returns {HTMLElement}
+ */
+export function written(text) {
+  return h("bdi", {}, text);
+}
+
+/**
  * The element with an id.
  * @param {string} id
  * @returns {any} the element, or null
