@@ -1544,6 +1544,16 @@ ADDRESSES = ["/", "/files", "/left", f"/month/{MONTH_BEFORE}", "/people", "/insp
 IMPORTS = re.compile(r"(?:import|from) \"(/[^\"]+|\./[^\"]+)\"")
 
 
+WIDTH = "document.documentElement.scrollWidth"
+# What lies beyond the margins of the page, but for what scrolls by itself.
+BEYOND = """(() => {
+    const main = document.querySelector("#content");
+    const right = main.getBoundingClientRect().right - parseFloat(getComputedStyle(main).paddingRight);
+    return [...main.querySelectorAll("*:not(.wide *, .hush)")].filter((one) => one.getBoundingClientRect().right > right + 1)
+        .map((one) => `${one.tagName} ${one.textContent.slice(0, 20)}`).slice(0, 3);
+})()"""
+
+
 def looks(office: Office, pictures: str) -> Comparisons:
     """The pages at two widths, light and dark, in both languages: nothing lies beside the screen, and no word is missing."""
     for language, scheme, width in [("en", "light", 1280), ("de", "dark", 360), ("de", "light", 360), ("en", "dark", 1280)]:
@@ -1555,7 +1565,9 @@ def looks(office: Office, pictures: str) -> Comparisons:
             time.sleep(0.1)
             name = address.strip("/").replace("/", "-") or "start"
             office.page.picture(os.path.join(pictures, f"{name}-{language}-{scheme}-{width}.png"))
-            yield f"{address} {language} {width}: the width", office.run("document.documentElement.scrollWidth"), width
+            for other in [1200, width] if width > 1200 else [width]:
+                office.page.resize(other)
+                yield f"{address} {language} {other}: the width", office.run(f"[{WIDTH}, {BEYOND}]"), [other, []]
             yield f"{address} {language} {width}: words that are missing", re.findall(r"undefined|NaN|\[object|=>", office.text("body")), []
     office.page.resize(1280)
     office.speak("en")
