@@ -475,6 +475,14 @@ class Month:
             if f"{line[:10]} 00:00" < last]
         return [[one if one != "0:00" else "–" for one in row] for row in shown]
 
+    def later(self) -> list[list[str]]:
+        """The row of the days that haven't come."""
+        days = [line[:10] for line in self.sheet if re.match(r"\d{4}-", line)][len(self.days()):]
+        if not days:
+            return []
+        first, last = day_text(instant(days[0])), day_text(instant(days[-1]), True)
+        return [[f"{first} to {last}: not yet", *["–"] * 5, f"{24 * len(days)}:00"]]
+
     def total(self) -> list[str]:
         """The sums of the month."""
         return next(line for line in self.sheet if line.startswith("TOTAL")).split()[1:]
@@ -872,7 +880,7 @@ def month_page(office: Office, driver: int, month: str) -> Comparisons:
     table = office.table(".tight")
     days = wanted.days()
     yield f"{name}: days", table[:len(days)], days
-    yield f"{name}: the days that haven't come", len(table) - len(days), int(month == MONTH)
+    yield f"{name}: the days that haven't come", table[len(days):], wanted.later()
     yield f"{name}: sums of the table", office.texts(".tight tfoot td"), [one if one != "0:00" else "–" for one in total]
     yield f"{name}: gaps", office.texts("#gaps li"), wanted.open_gaps()
     shown = office.texts("#debts > ul > li")
