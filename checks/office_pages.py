@@ -1326,6 +1326,8 @@ def faults(office: Office) -> Comparisons:
         pages.faults.clear()
     office.go("/", "table.cards")
     waits = "/asks again by itself/.test(document.querySelector('#busy').textContent)"
+    office.until("[...document.querySelectorAll('.left-cell .v')].every((one) => one.textContent !== '…')")
+    pages.fail(f"GET /drivers/{CHANGED}/files", (429, "text/html", b"<html>"))
     pages.fail(f"GET /drivers/{CHANGED}/why", (429, "text/html", b"<html>"))
     before = len(pages.asked)
     office.run(f"location.hash = '/drivers/{CHANGED}/{MONTH_BEFORE}'")
@@ -1334,9 +1336,9 @@ def faults(office: Office) -> Comparisons:
     yield "that is said as long as the page waits", office.run(waits), True
     yield "the page's content stays", office.text("#title").startswith("Drivers on"), True
     yield "then the page comes by itself", office.until("document.querySelector('.chart') !== null"), True
-    asked = [one.split("/")[3] for one in pages.asked[before:]]
+    asked = re.findall(rf"^GET /drivers/{CHANGED}/(\w+)", "\n".join(pages.asked[before:]), re.MULTILINE)
     yield "what it has got isn't asked for again", {name: asked.count(name) for name in ("files", "sheet", "spans", "why", "debts")}, {
-        "files": 2, "sheet": 1, "spans": 1, "why": 2, "debts": 1}
+        "files": 3, "sheet": 1, "spans": 1, "why": 2, "debts": 1}
     pages.fail("GET /forecast", (429, "text/html", b"<html>"))
     office.go("/", "table.cards")
     yield "too many requests while the page is shown", office.until(waits), True
