@@ -64,7 +64,8 @@ SHOWN = """(() => {
         breaches: document.querySelector("#breaches li.breach") === null ? [texts("#breaches p")]
             : of(document, "#breaches li.breach").map(breach),
         more: texts("#breaches .more > summary"),
-        evidence: of(document, "#breaches li.breach").map((one) => of(one, "tbody tr").map((row) => texts("th, td", row))),
+        evidence: of(document, "#breaches li.breach").map((one) =>
+            of(one, "tbody tr, .evidence + .note").map((row) => row.matches("tr") ? texts("th, td", row) : [row.textContent])),
         others: texts("#others summary, #others a"),
         examined: texts("#not-examined > p, #not-examined li, #not-examined .box > p"),
         debts: texts("#debts > p, #debts li"),
@@ -405,10 +406,12 @@ def replies_of_nginx(site: Site) -> Comparisons:
         yield f"{method} /me/cards/both with uploads open", (told[0], told[1].get("cache-control")), (wanted, "no-store")
 
 
-# Makes a clock begin at a minute, in each document that is loaded from then on. `clockIsAt` changes it.
+# Makes a clock begin at a minute, in each document that is loaded from then on. Waits are shorter by the factor `hurry`.
 CLOCK_SCRIPT = """(() => {
     const Real = Date;
     let shift = %d - Real.now();
+    const wait = setTimeout;
+    globalThis.setTimeout = (act, milliseconds) => wait(act, milliseconds / (globalThis.hurry ?? 1));
     globalThis.Date = class extends Real {
         constructor(...parts) {
             super(...(parts.length === 0 ? [Real.now() + shift] : parts));
@@ -506,6 +509,8 @@ def wrong_keys(page: Page) -> Comparisons:
 
 # The elements of names that might be read as markup.
 MARKUP = """document.querySelectorAll("#hours b:not(.meter b, #not-examined b), #hours script").length"""
+# The box of the driver's name, beyond which its signs change nothing.
+BOX = """(({ display, overflow }) => [display, overflow])(getComputedStyle(document.querySelector("#title bdi")))"""
 PARTS = ["heading", "left", "breaches", "more", "evidence", "others", "examined", "debts", "gaps", "table"]
 
 
@@ -525,6 +530,7 @@ def month_comparisons(name: str, page: Page, month: Month, language: str) -> Com
     for part in ("bars", "unknown", "unseen", "marks", "flags", "labels", "sum"):
         yield f"{name}: {part}", [day[part] for day in shown["days"]], [day[part] for day in days]
     yield f"{name}: markup from a text", page.run(MARKUP), 0
+    yield f"{name}: the box of the name", page.run(BOX), ["inline-block", "clip"]
 
 
 def months(site: Site, page: Page) -> Comparisons:
@@ -812,6 +818,31 @@ def faults(page: Page, address: str) -> Comparisons:
         sign_in(page, "anna-key-1")
 
 
+def silence(page: Page) -> Comparisons:
+    """Readings that get no reply: 35 seconds after the last reply the page ends them all, by waits that are 20 times as short."""
+    sign_in(page, "anna-key-1")
+    page.run(f"""window.hurry = 20; window.last = 0; window.ended = []; window.fetch = async (path, options) => {{
+        if (/debts|why/.test(path)) {{
+            await new Promise((_, end) => options.signal.addEventListener("abort", () => {{
+                window.ended.push(performance.now() - window.last);
+                end(options.signal.reason);
+            }}));
+        }}
+        const late = [["sheet", 20000], ["spans", 40000]].find(([what]) => path.includes(what));
+        await new Promise((done) => setTimeout(done, late?.[1] ?? 0));
+        window.last = performance.now();
+        return window.kept(path, options);
+    }}; {RENEW} document.querySelector("#choose").requestSubmit(); null""")
+    page.until(f"""{MESSAGE} !== "" """)
+    told = page.run(f"""[{MESSAGE}, document.querySelector("#again").textContent, window.ended.length,
+        window.ended.every((one) => one > 1749)]""")
+    yield "readings without a reply", told, [DOWN, "Try again", 2, True]
+    page.run("window.fetch = window.kept; window.hurry = 1; document.querySelector('#again').click(); null")
+    yield "then they are asked for again", page.until("""!document.querySelector("#hours").hidden"""), True
+    page.run("""sessionStorage.clear(); dispatchEvent(new PageTransitionEvent("pageshow", { persisted: true })); null""")
+    yield "the way back to a page after a log-out elsewhere", (page.run(FORMS), page.run(HAS_DATA)), (["sign-in"], False)
+
+
 def too_many(page: Page) -> Comparisons:
     """Replies of 429: what is shown stays, the page waits and asks again by itself, and what it has got it doesn't ask for again."""
     page.run("""window.count = {}; window.fetch = async (path, ...others) => {
@@ -1096,6 +1127,7 @@ def pages(site: Site, pictures: str) -> Comparisons:
         yield from other_starts(site, page)
         yield from faults(page, shut)
         yield from too_many(page)
+        yield from silence(page)
         yield from spoiled(page, shut)
         yield from downloads(site, page)
         page.call("Page.removeScriptToEvaluateOnNewDocument", identifier=script)

@@ -16,6 +16,7 @@ import json
 import os
 import random
 import re
+import select
 import shutil
 import subprocess
 import sys
@@ -28,7 +29,7 @@ from typing import Any
 
 from inputs import hard_timelines, random_cards
 from inputs.random_cards import ACTIVITY, IDENTIFICATION, activity_data, block, record, word
-from lib import browser, counting, rules, tars
+from lib import browser, counting, driver_month, rules, tars
 from lib.browser import Browser, Fault, Page
 from lib.counting import Comparisons
 from lib.files import TOP, read, write
@@ -95,7 +96,7 @@ class Pages:
 
     def fail(self, begin: str, way: Any, count: int = 1) -> None:
         """Lets the next requests fail: `before` and `after` break the connection before or after the program got it; a status, a
-        type and a body are a reply of another server; a function changes the bytes of the program's reply."""
+        type and a body are a reply of another server; a function changes the bytes of the program's reply; `never` gives none."""
         self.faults.append([begin, way, count])
 
     def fault_of(self, request: str) -> Any:
@@ -115,6 +116,9 @@ class Pages:
             self.asked.append(request)
         way = self.fault_of(request)
         if way == "before":
+            return
+        if way == "never":
+            select.select([handler.connection], [], [], browser.SECONDS)  # until the browser closes it
             return
         if isinstance(way, tuple):
             self.reply(handler, way[0], {"content-type": way[1]}, way[2])
@@ -221,8 +225,8 @@ def plainly(start: str, past: str) -> list[Span]:
 
 MARKUP = "<img src=x onerror=alert(1)>"
 COMBINED = "e" + "\u0301" * 31
-SEPARATED = "Ann\u2028Berg \u2029"
-TURNED = "\u202eBert Falk\u2066"
+SEPARATED = "Ann\u2028Berg\u0085 \u2029"
+TURNED = "\u2069\u202eBert Falk\u2066"
 BOTH_NIGHTS = 17
 CHANGED, WRONG, ABSENT, LATE, SOON, GONE, UNKNOWN = 11, 12, 14, 15, 18, 21, 30
 
@@ -266,11 +270,11 @@ class Site:
         self.pages.__exit__()
         self.serving.__exit__()
 
-    def ask(self, path: str, key: str = OFFICE) -> tuple[int, bytes]:
-        """The status and body of the program's own reply."""
+    def ask(self, path: str, key: str = OFFICE, body: bytes | None = None) -> tuple[int, bytes]:
+        """The status and body of the program's own reply; with a body, to a command."""
         connection = http.client.HTTPConnection("127.0.0.1", self.serving.port, timeout=60)
         with contextlib.closing(connection):
-            connection.request("GET", path, headers={"x-key": key})
+            connection.request("GET" if body is None else "POST", path, body, {"x-key": key})
             reply = connection.getresponse()
             return reply.status, reply.read()
 
@@ -471,6 +475,14 @@ class Month:
             if f"{line[:10]} 00:00" < last]
         return [[one if one != "0:00" else "–" for one in row] for row in shown]
 
+    def later(self) -> list[list[str]]:
+        """The row of the days that haven't come."""
+        days = [line[:10] for line in self.sheet if re.match(r"\d{4}-", line)][len(self.days()):]
+        if not days:
+            return []
+        first, last = day_text(instant(days[0])), day_text(instant(days[-1]), True)
+        return [[f"{first} to {last}: not yet", *["–"] * 5, f"{24 * len(days)}:00"]]
+
     def total(self) -> list[str]:
         """The sums of the month."""
         return next(line for line in self.sheet if line.startswith("TOTAL")).split()[1:]
@@ -490,6 +502,8 @@ CLOCK = """(() => {
         static now() { return Real.now() + moved + (globalThis.later ?? 0); }
     }
     globalThis.Date = Moved;
+    const wait = setTimeout;
+    globalThis.setTimeout = (act, milliseconds) => wait(act, milliseconds / (globalThis.hurry ?? 1));
 })()"""
 
 
@@ -914,7 +928,7 @@ def month_page(office: Office, driver: int, month: str) -> Comparisons:
     table = office.table(".tight")
     days = wanted.days()
     yield f"{name}: days", table[:len(days)], days
-    yield f"{name}: the days that haven't come", len(table) - len(days), int(month == MONTH)
+    yield f"{name}: the days that haven't come", table[len(days):], wanted.later()
     yield f"{name}: sums of the table", office.texts(".tight tfoot td"), [one if one != "0:00" else "–" for one in total]
     yield f"{name}: gaps", office.texts("#gaps li"), wanted.open_gaps()
     shown = office.texts("#debts > ul > li")
@@ -1163,6 +1177,7 @@ def autumn_gap(office: Office) -> Comparisons:
     yield "the button is dead", office.run("document.querySelector('#save').disabled"), True
     office.press_button("Look again")
     yield "then it is known", office.until("/Nothing was saved/.test(document.querySelector('#gaps-told').textContent)"), True
+    office.run("document.querySelectorAll('.gap')[1].querySelector('input[value=\"\"]').click()")  # so that the page may be left
 
 
 def withdrawals(office: Office) -> Comparisons:
@@ -1358,11 +1373,181 @@ def faults(office: Office) -> Comparisons:
         yield f"one changed byte of {path}", (office.text("#content .box"), office.texts(".breach, .day, #content td")), (unreadable, [])
         pages.faults.clear()
     office.go("/", "table.cards")
-    pages.fail("GET /overview", (429, "text/html", b"<html>"))
-    office.run(f"location.hash = '/month/{MONTH}'")
-    yield "too many requests", office.until("/asks again by itself/.test(document.querySelector('#busy').textContent)"), True
+    waits = "/asks again by itself/.test(document.querySelector('#busy').textContent)"
+    office.until("[...document.querySelectorAll('.left-cell .v')].every((one) => one.textContent !== '…')")
+    pages.fail(f"GET /drivers/{CHANGED}/files", (429, "text/html", b"<html>"))
+    pages.fail(f"GET /drivers/{CHANGED}/why", (429, "text/html", b"<html>"))
+    before = len(pages.asked)
+    office.run(f"location.hash = '/drivers/{CHANGED}/{MONTH_BEFORE}'")
+    yield "too many requests", office.until(waits), True
+    time.sleep(1)
+    yield "that is said as long as the page waits", office.run(waits), True
     yield "the page's content stays", office.text("#title").startswith("Drivers on"), True
-    yield "then the page comes by itself", office.until("/^All drivers in/.test(document.querySelector('#title').textContent)"), True
+    yield "then the page comes by itself", office.until("document.querySelector('.chart') !== null"), True
+    asked = re.findall(rf"^GET /drivers/{CHANGED}/(\w+)", "\n".join(pages.asked[before:]), re.MULTILINE)
+    yield "what it has got isn't asked for again", {name: asked.count(name) for name in ("files", "sheet", "spans", "why", "debts")}, {
+        "files": 3, "sheet": 1, "spans": 1, "why": 2, "debts": 1}
+    pages.fail("GET /forecast", (429, "text/html", b"<html>"))
+    office.go("/", "table.cards")
+    yield "too many requests while the page is shown", office.until(waits), True
+    yield "then nothing is said", office.until("document.querySelector('#busy').textContent === ''"), True
+
+
+def silence(office: Office) -> Comparisons:
+    """A reading that gets no reply: after 35 seconds the page ends it, by waits that are 20 times as short. Readings that are slow but come
+    are waited for."""
+    pages = office.site.pages
+
+    def slow(told: bytes) -> bytes:
+        """A reply that comes late."""
+        time.sleep(1.25)
+        return told
+
+    office.go("/", "table.cards")
+    office.run("globalThis.hurry = 20")
+    for path in ("files", "entries", "sheet"):
+        pages.fail(f"GET /drivers/{CHANGED}/{path}", slow)
+    office.go(f"/drivers/{CHANGED}/{MONTH_BEFORE}", ".chart")
+    yield "replies after 25 seconds each", office.text("#title").startswith(MARKUP), True
+    office.run("globalThis.hurry = 1")
+    office.go("/people", "table.cards")
+    office.run("globalThis.hurry = 20")
+    pages.fail(f"GET /drivers/{CHANGED}/spans", "never")
+    office.go(f"/drivers/{CHANGED}/{MONTH_BEFORE}", ".box.bad")
+    yield "no reply in 35 seconds", office.texts("#content .box, #content button"), [
+        "The archive can't be reached at the moment. Nothing that was saved is lost. Try again in a minute; if that doesn't help, ask "
+        "whoever keeps the service.", "Try again"]
+    office.run("globalThis.hurry = 1")
+    office.mark()
+    office.press_button("Try again")
+    yield "then it is tried again", office.shown(".chart"), True
+
+
+ROWS_SAID = "[...document.querySelectorAll('.gap input:checked')].map((one) => one.value).filter((one) => one !== '')"
+IS_KEPT = """(() => {
+    const event = new Event("beforeunload", { cancelable: true });
+    dispatchEvent(event);
+    return event.defaultPrevented;
+})()"""
+
+
+def leaving(office: Office) -> Comparisons:
+    """The form for gaps with a row that is filled in: each way out of it asks first."""
+    here, others = f"/drivers/{WRONG}/gaps", f"/drivers/{BOTH_NIGHTS}/gaps"
+    question = "Hours are filled in here and not saved.Leave without savingStay"
+    for name, leave, title in [
+        ("a link", lambda: office.press_button("Card files"), "Card files"),
+        ("another driver's gaps", lambda: office.run(f"location.hash = '{others}'"), "Eva Lund: Unknown hours"),
+        ("the way back", lambda: office.run("(history.back(), 0)"), "Manage drivers"),
+        ("another language", lambda: office.set("#language", "de"), f"{SEPARATED}: Unbekannte Stunden"),
+    ]:
+        office.go("/people", "table.cards")
+        office.go(here, ".gap")
+        yield f"{name}: the tab without a row", office.run(IS_KEPT), False
+        pick(office, 0, "rest")
+        yield f"{name}: the tab with a row", office.run(IS_KEPT), True
+        leave()
+        office.until("document.querySelector('dialog[open]') !== null")
+        yield f"{name}: the question", (office.text("dialog[open]"), office.run("location.hash")), (question, f"#{here}")
+        office.press_button("Stay")
+        office.until("document.querySelector('dialog') === null")
+        yield f"{name}: to stay", office.run(f"[location.hash, {ROWS_SAID}, document.querySelector('#language').value]"), [
+            f"#{here}", ["rest"], "en"]
+        leave()
+        office.confirm()
+        yield f"{name}: to leave", office.until(f"document.querySelector('#title').textContent === {json.dumps(title)}"), True
+        yield f"{name}: then nothing is asked", office.run(f"[document.querySelector('dialog'), {IS_KEPT}]"), [None, False]
+    office.speak("en")
+
+
+# The texts with a name that are in no element of their own, and those that don't stand after a name which they follow.
+LOOSE = """((names) => {
+    const walk = document.createTreeWalker(document.body, NodeFilter.SHOW_TEXT), found = [];
+    while (walk.nextNode()) {
+        const text = walk.currentNode;
+        if (names.some((name) => text.data.includes(name)) && text.parentElement.closest("bdi, option, textarea") === null) {
+            found.push(text.data);
+        }
+    }
+    for (const name of document.querySelectorAll("bdi")) {
+        const next = name.nextSibling, box = name.getBoundingClientRect(), { display, overflow } = getComputedStyle(name);
+        if (display !== "inline-block" || overflow !== "clip") found.push([name.textContent, display, overflow]);
+        if (next?.nodeType !== Node.TEXT_NODE) continue;
+        const after = document.createRange();
+        after.setStart(next, 0);
+        after.setEnd(next, 1);
+        const [at] = after.getClientRects();
+        if (at && at.left < box.right - 1 && at.bottom < box.bottom - 1) found.push([name.textContent, next.data]);
+    }
+    return found;
+})(%s)"""
+
+
+def names(office: Office) -> Comparisons:
+    """Names that are markup, end lines, turn the direction of writing, or pile up: wherever one stands, it changes nothing beside it."""
+    all_names = [MARKUP, SEPARATED, COMBINED, TURNED]
+    loose = LOOSE % json.dumps(all_names)
+    for address in [*ADDRESSES, *(f"/drivers/{driver}/{page}" for driver in (ABSENT, 13)
+                                  for page in (MONTH, f"{MONTH_BEFORE}/letter", "left", "gaps", "entries"))]:
+        office.go(address)
+        office.run("document.querySelectorAll('details').forEach((one) => { one.open = true; })")
+        yield f"names on {address}", office.run(loose), []
+    office.go(f"/drivers/{BOTH_NIGHTS}/entries", "table.cards")
+    yield "an author", (office.run(LOOSE % json.dumps(["Ed ", "roster 13"])), office.texts("td bdi")), (
+        [], [f"Ed {TURNED}", "", f"Ed {TURNED}", "roster 13; <b>paper</b>"])
+    office.go("/inspection", "#who")
+    shown = office.run("[...document.querySelectorAll('#who option')].map((one) => one.textContent)")
+    yield "names in a list to choose from", [one for one in shown if re.search("[\u202a-\u202e\u2066\u2067]", one)], []
+    office.set("#who", str(ABSENT))
+    office.mark()
+    office.run("document.querySelector('form').requestSubmit()")
+    office.shown("#save-tar")
+    yield "names of an inspection", office.run(loose), []
+    for number, name in [(number, name) for number, name, *_ in DRIVERS if name in all_names]:
+        office.go("/people", "table.cards")
+        row = f"[...document.querySelectorAll('#content tr')].find((one) => one.querySelector('small')?.textContent === ' {number}')"
+        office.run(f"{row}.querySelector('button').click()")
+        office.until("document.querySelector('dialog[open]') !== null")
+        yield f"{name!r} in a question", (office.texts("dialog bdi"), office.run(loose)), ([name], [])
+        office.press_button("Cancel")
+        office.mark()
+        office.run(f"(({{ form }}) => form.requestSubmit())({row}.querySelector('form input'))")
+        office.shown(".box")
+        kept = name.strip(" \u2028\u2029")  # the page sends it without blanks at its ends
+        yield f"{name!r} in what became of it", (office.notice(), office.texts(".box bdi"), office.run(loose)), (
+            f"The name is {kept} now.", [kept], [])
+
+
+def by_hand(office: Office) -> Comparisons:
+    """The marks of evidence that was entered by hand: hours that were unknown, hours that the card has too, and a withdrawn entry."""
+    path = f"/drivers/{WRONG}"
+    runs = re.findall(r"^  drive (.{16}) (.{16}) ", office.site.text(f"{path}/why/{MONTH_BEFORE}"), re.MULTILINE)
+    given = [("2024-10-16 07:13", "2024-10-16 08:13", "drive"), ("2024-10-16 08:13", "2024-10-18 22:41", "rest"),
+             (*runs[0], "drive"), (*runs[-1], "drive")]
+    for row in given:
+        yield f"entered {row}", office.site.ask(f"{path}/entries", body=f"start,past,activity\n{','.join(row)}\n".encode())[0], 201
+    yield "one is withdrawn", office.site.ask(f"{path}/withdraw/4", body=b"")[0], 200
+    entries = driver_month.kept_entries(office.site.text(f"{path}/entries"))
+    why = [(found[1], [line[2:] for line in evidence]) for found, evidence in Month(office.site, WRONG, MONTH_BEFORE).why]
+    marks = [[driver_month.is_by_hand(line, entries) for line in evidence] for kind, evidence in why if kind != "B9"]
+    yield "lines of both kinds", {mark for one in marks for mark in one}, {True, False}
+    ready = [driver_month.is_by_hand(line, entries) for found, evidence in Month(office.site, WRONG, MONTH_BEFORE).why
+             if found[1] != "B9" and not is_open(found[1], evidence) for line in [one[2:] for one in evidence]]
+    seen = """[...document.querySelectorAll('.breach:not([id^=breach-B9])')].map((one) =>
+        [[...one.querySelectorAll('tbody th')].map((head) => head.textContent.endsWith(%s)),
+            [...one.querySelectorAll('.evidence + .note')].map((note) => note.textContent)])"""
+    for language, (mark, said) in driver_month.HAND.items():
+        office.speak(language)
+        office.go(f"{path}/{MONTH_BEFORE}", ".chart")
+        yield f"the month {language}", office.run(seen % json.dumps(mark)), [[one, [said] * any(one)] for one in marks]
+        office.go(f"{path}/{MONTH_BEFORE}/letter", ".sheet")
+        office.mark()
+        office.set("#letter-language", language)
+        office.shown(".sheet")
+        told = office.run(seen % json.dumps(mark))
+        yield f"the letter {language}", ([mark for one, _ in told for mark in one], [notes for _, notes in told]), (
+            ready, [[said] * any(one) for one, _ in told])
+    office.speak("en")
 
 
 def versions(office: Office) -> Comparisons:
@@ -1391,6 +1576,9 @@ def sessions(office: Office) -> Comparisons:
          "You are logged out: for half an hour no key was pressed and nothing was clicked."),
         ("the way back", lambda: office.run("(dispatchEvent(new PageTransitionEvent('pageshow', { persisted: true })), 0)"),
             "You are logged out."),
+        ("the way back after a log-out elsewhere",
+            lambda: office.run("(sessionStorage.clear(), dispatchEvent(new PageTransitionEvent('pageshow', { persisted: true })), 0)"),
+            "You are logged out."),
     ]:
         office.go("/", "table.cards")
         if name == "half an hour":
@@ -1414,6 +1602,16 @@ ADDRESSES = ["/", "/files", "/left", f"/month/{MONTH_BEFORE}", "/people", "/insp
 IMPORTS = re.compile(r"(?:import|from) \"(/[^\"]+|\./[^\"]+)\"")
 
 
+WIDTH = "document.documentElement.scrollWidth"
+# What lies beyond the margins of the page, but for what scrolls by itself.
+BEYOND = """(() => {
+    const main = document.querySelector("#content");
+    const right = main.getBoundingClientRect().right - parseFloat(getComputedStyle(main).paddingRight);
+    return [...main.querySelectorAll("*:not(.wide *, .hush)")].filter((one) => one.getBoundingClientRect().right > right + 1)
+        .map((one) => `${one.tagName} ${one.textContent.slice(0, 20)}`).slice(0, 3);
+})()"""
+
+
 def looks(office: Office, pictures: str) -> Comparisons:
     """The pages at two widths, light and dark, in both languages: nothing lies beside the screen, and no word is missing."""
     for language, scheme, width in [("en", "light", 1280), ("de", "dark", 360), ("de", "light", 360), ("en", "dark", 1280)]:
@@ -1425,7 +1623,9 @@ def looks(office: Office, pictures: str) -> Comparisons:
             time.sleep(0.1)
             name = address.strip("/").replace("/", "-") or "start"
             office.page.picture(os.path.join(pictures, f"{name}-{language}-{scheme}-{width}.png"))
-            yield f"{address} {language} {width}: the width", office.run("document.documentElement.scrollWidth"), width
+            for other in [1200, width] if width > 1200 else [width]:
+                office.page.resize(other)
+                yield f"{address} {language} {other}: the width", office.run(f"[{WIDTH}, {BEYOND}]"), [other, []]
             yield f"{address} {language} {width}: words that are missing", re.findall(r"undefined|NaN|\[object|=>", office.text("body")), []
     office.page.resize(1280)
     office.speak("en")
@@ -1476,11 +1676,13 @@ def comparisons(program: str, pictures: str | None = None) -> Comparisons:
             office = Office(site, driven)
             for part in (
                 signing_in, languages, sentences, registering, importing, contradiction, broken_uploads, start_page, months, all_drivers,
-                what_is_left, spring_gap, autumn_gap, withdrawals, letters, inspection, changes, faults, versions, sessions,
+                what_is_left, spring_gap, autumn_gap, withdrawals, letters, inspection, changes, leaving, names, faults, silence, versions,
+                sessions,
             ):
                 yield from part(office)
             yield from looks(office, kept)
             yield from budget(office)
+            yield from by_hand(office)
             yield from quiet(office)
 
 

@@ -283,6 +283,34 @@ def breach_parts(line: str) -> tuple[str, str, str, str, int]:
     return kind, article, at, since, int(amount)
 
 
+Entry = tuple[str, str, str]  # a start, a past, and an activity
+# The mark of a line with hours that were entered by hand, and what is said of it.
+HAND = {"en": (" (by hand)", "By hand: entered by hand, in part or whole."),
+        "de": (" (von Hand)", "Von Hand: zum Teil oder ganz von Hand eingetragen.")}
+MOMENT = r"(-|\d{4}-\d\d-\d\d \d\d:\d\d)"
+
+
+def kept_entries(text: str) -> list[Entry]:
+    """The entries that haven't been withdrawn."""
+    return re.findall(r"^\d+ (.{16}) (.{16}) (\w+) kept ", text, re.MULTILINE)
+
+
+def is_by_hand(row: str, entries: Sequence[Entry]) -> bool:
+    """Whether an entry lies in a line of evidence. In a sum of driving only driving counts; of a rest of which one end isn't known, the
+    minute at the other end."""
+    counted = list(entries)
+    if match := re.match(r"(date|week) (\S+) (drive |at rest)", row):
+        start = minutes_of(f"{match[2]} 00:00")
+        past = start + DAY * (1 if match[1] == "date" else 7)
+        counted = counted if match[3] == "at rest" else [one for one in counted if one[2] == "drive"]
+    elif match := re.match(rf"\w+ (?:\d+ )?{MOMENT} {MOMENT}(?: |$)", row):
+        start = minutes_of(match[2]) - 1 if match[1] == "-" else minutes_of(match[1])
+        past = start + 1 if match[2] == "-" else minutes_of(match[2])
+    else:
+        return False
+    return any(minutes_of(one[0]) < past and start < minutes_of(one[1]) for one in counted)
+
+
 class Month:
     """A driver's month by the replies of the program, at a clock."""
 
@@ -295,7 +323,8 @@ class Month:
         self.debts = stretches_in(ask("/me/debts"))
         self.why = [part.split("\n  ") for part in re.findall(r"^\S.*(?:\n  .*)*", ask(f"/me/why/{month}"), re.MULTILINE)]
         files = [line.split(" ", 3)[3][17:33] for line in lines_of(ask("/me/files"))]
-        entries = [line.split(" ", 1)[1][17:33] for line in lines_of(ask("/me/entries")) if re.match(r"\d+ .{33} \w+ kept ", line)]
+        self.entries = kept_entries(ask("/me/entries"))
+        entries = [past for _, past, _ in self.entries]
         monday, _, horizon, _, past = self.stretches[-1]
         examined = [past or horizon] if (past or horizon) > f"{monday} 00:00" else []
         self.end = max([*files, *entries, *examined], default="")
@@ -374,7 +403,7 @@ class Month:
         return [] if count < 1 else [OTHERS[language]["one more"] if count == 1 else OTHERS[language]["more"].format(count)]
 
     def evidence_texts(self, language: str) -> list[list[Texts]]:
-        """The rows that show each breach."""
+        """The rows that show each breach, and what is said of those with hours that were entered by hand."""
         found = []
         for line, *evidence in self.why:
             kind, _, _, since, _ = breach_parts(line)
@@ -382,7 +411,11 @@ class Month:
             if kind == "B9":
                 first = text_of(minutes_of(since) - 14 * DAY)
                 rows = [row for row in rows if self.end_of(row) >= first]
-            found.append([self.evidence_row(language, row) for row in rows])
+            marked = [is_by_hand(row, self.entries) for row in rows]
+            cells = [self.evidence_row(language, row) for row in rows]
+            mark, said = HAND[language]
+            found.append([[first + mark * has_mark, *others] for has_mark, (first, *others) in zip(marked, cells, strict=True)])
+            found[-1] += [[said]] * any(marked)
         return found
 
     @staticmethod

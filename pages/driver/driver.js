@@ -1,6 +1,6 @@
 // The driver's page: what is left first, then a month. It asks the archive with the driver's key, and shows the replies. The address after
 // `#` is the month; without one it is the last month that has data.
-import { $, KEY_FORM, Problem, bytes, forget, h, keep, key, listed, reading, send, watch } from "/shared/page.js";
+import { $, KEY_FORM, Problem, bytes, forget, h, keep, key, listed, reading, send, watch, written } from "/shared/page.js";
 import { breachItem, chart, debtsPart, gapsPart, meters, notExaminedBox, sheetTable, undivided, unseenOf } from "/shared/parts.js";
 import { lengthOf, readAhead, readBreaches, readDebts, readEntries, readFiles, readGaps, readSheet, readSpans, readVersion, readWhy }
   from "/shared/read.js";
@@ -398,13 +398,14 @@ function monthField(month) {
  * The month's breaches: the first ones, and the others folded up.
  * @param {ShownBreach[]} why
  * @param {boolean} isSeen whether a minute of the month is examined
+ * @param {Entry[]} entries
  * @returns {Child}
  */
-function breachList(why, isSeen) {
+function breachList(why, isSeen, entries) {
   if (why.length === 0) {
     return h("p", {}, isSeen ? say.noBreach : say.nothingExamined);
   }
-  const list = (/** @type {ShownBreach[]} */ some) => h("ul", { class: "list" }, some.map((breach) => breachItem(breach)));
+  const list = (/** @type {ShownBreach[]} */ some) => h("ul", { class: "list" }, some.map((breach) => breachItem(breach, { entries })));
   const others = why.slice(FIRST_BREACHES);
   return [
     list(why.slice(0, FIRST_BREACHES)),
@@ -459,8 +460,8 @@ function entriesPart({ month, entries }) {
     return null;
   }
   const item = (/** @type {Entry} */ entry) => h("li", {},
-    `${both(entry.start)} ${say.to} ${both(entry.past)}: ${say[entry.activity]}, `, h("bdi", {}, entry.author),
-    entry.note ? [", ", h("bdi", {}, entry.note)] : null, entry.state === "withdrawn" ? ` (${say.isWithdrawn})` : "");
+    `${both(entry.start)} ${say.to} ${both(entry.past)}: ${say[entry.activity]}, `, written(entry.author),
+    entry.note ? [", ", written(entry.note)] : null, entry.state === "withdrawn" ? ` (${say.isWithdrawn})` : "");
   return h("details", { id: "entries" }, h("summary", {}, say.entered(inMonth.length)), h("ul", {}, inMonth.map(item)));
 }
 
@@ -470,7 +471,7 @@ function entriesPart({ month, entries }) {
  * @returns {Child[]}
  */
 function monthParts(month) {
-  const { sheet, spans, stretches, why, debts, end } = month;
+  const { sheet, spans, stretches, why, debts, entries, end } = month;
   const range = rangeOf(month.month);
   const unseen = unseenOf(stretches, range);
   const isSeen = unseen.reduce((sum, one) => sum + one.past - one.start, 0) < range[1] - range[0];
@@ -479,11 +480,11 @@ function monthParts(month) {
   const isOver = (/** @type {{start: number}} */ day) => day.start < Math.max(end, now());
   const [days, later] = [sheet.days.filter(isOver), sheet.days.filter((day) => !isOver(day))];
   return [
-    h("h1", { id: "title", tabindex: "-1" }, h("bdi", {}, sheet.name)),
+    h("h1", { id: "title", tabindex: "-1" }, written(sheet.name)),
     leftPart(month),
     monthHead(month),
     h("h2", { id: "breaches-head" }, `${say.breaches}${why.length > 0 ? `: ${why.length}` : ""}`),
-    h("div", { id: "breaches" }, breachList(why, isSeen)),
+    h("div", { id: "breaches" }, breachList(why, isSeen, entries)),
     otherMonths(month),
     h("section", { class: "keep", id: "chart" }, h("h2", {}, say.chart), chart({
       spans, gaps, breaches: why, unseen, days, range, labelledBy: "chart-name title month-head", describedBy: "breaches",

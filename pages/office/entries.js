@@ -1,5 +1,5 @@
 // A driver's entries, and their withdrawal.
-import { $, h } from "/shared/page.js";
+import { $, h, written } from "/shared/page.js";
 import { both, length, monthName, say } from "/shared/say.js";
 import { readDrivers, readEntries } from "/shared/read.js";
 import { ask, button, confirmed, head, listTable, notice, thisMonth, tool } from "./office.js";
@@ -25,8 +25,8 @@ const columnsOf = (withdrawOne) => [
   { head: say.fromTo, cell: (one) => h("span", { class: "v" }, `${both(one.start)} ${say.to} ${both(one.past)}`,
     h("small", {}, ` ${length(one.past - one.start)}`)) },
   { head: say.what, cell: (one) => say[one.activity] },
-  { head: say.author, cell: (one) => one.author }, { head: say.noteLabel, kindOf: (one) => (one.note ? "" : "quiet"),
-    cell: (one) => one.note },
+  { head: say.author, cell: (one) => written(one.author) }, { head: say.noteLabel, kindOf: (one) => (one.note ? "" : "quiet"),
+    cell: (one) => written(one.note) },
   { head: say.state, cell: (one) => (one.state === "withdrawn" ? h("span", { class: "dim" }, say.isWithdrawn)
     : button(say.withdraw, () => withdrawOne(Number(one.number)),
       { class: "small no-print", "aria-label": `${say.withdraw}: ${one.number}` })) },
@@ -48,7 +48,7 @@ export async function page({ signal, args: [driver], again }) {
   const [person] = readDrivers(await ask(`/drivers/${driver}`, signal));
   const entries = readEntries(await ask(`/drivers/${driver}/entries`, signal));
   const act = (first, last) => withdraw(driver, first, last, again);
-  return [head([h("bdi", {}, person.name), `: ${say.entries}`], tool(`/drivers/${driver}/gaps`, say.gapForm),
+  return [head([written(person.name), `: ${say.entries}`], tool(`/drivers/${driver}/gaps`, say.gapForm),
     tool(`/drivers/${driver}/${thisMonth()}`, monthName(thisMonth()))),
     h("p", {}, say.entriesHelp), entries.length === 0 ? h("p", { class: "box" }, say.noEntries)
       : [entries.length > 1 ? rangeForm(entries.length, act) : null,

@@ -3,7 +3,7 @@ import { h } from "/shared/page.js";
 import { minuteOf, textOf } from "/shared/time.js";
 import { both, monthName, say } from "/shared/say.js";
 import { cardOf, holderOf, readDrivers } from "/shared/read.js";
-import { ask, atLogOut, button, confirmed, head, link, proposed, thisMonth, unfinished } from "./office.js";
+import { ask, atLogOut, button, confirmed, head, link, proposed, telling, thisMonth, unfinished } from "./office.js";
 import { codeOf, command, isUnsure } from "./commands.js";
 
 const MOST = 262_144, NAME = /\.(ddd|c1b|tgd|esm)$/i, FAULTS_IN_A_ROW = 2;
@@ -42,14 +42,16 @@ function whatOf(status, line, whose) {
 const KINDS = { added: "good", repeated: "same", noCard: "same", waiting: "", sending: "" };
 
 /** The sentence of an item.
- * @type {(item: Item) => string} */
+ * @type {(item: Item) => import("./office.js").Content} */
 function sentenceOf({ file, outcome: { what, line, whose } }) {
   const [, driver, number] = /driver (\d+)(?: number (\d+))?$/.exec(line) ?? [];
-  if (what === "added") return say.added(file.name, nameOf(driver), number);
-  if (what === "repeated") return say.repeated(file.name, nameOf(driver));
-  if (what === "unknownCard") return say.unknownCard(file.name, whose ? `${whose.name}, ${cardOf(whose.holder)}` : "");
-  if (what === "contradicts") return say.contradicts(file.name, both(minuteOf(line.slice(-16))));
-  return say[what](file.name, line);
+  if (what === "added") return telling((name, who) => say.added(name, who, number), file.name, nameOf(driver));
+  if (what === "repeated") return telling(say.repeated, file.name, nameOf(driver));
+  if (what === "unknownCard" && whose) {
+    return telling((name, who) => say.unknownCard(name, `${who}, ${cardOf(whose.holder)}`), file.name, whose.name);
+  }
+  if (what === "contradicts") return telling((name) => say.contradicts(name, both(minuteOf(line.slice(-16)))), file.name);
+  return telling((name) => say[what](name, line), file.name);
 }
 
 /** What can be done about an item.

@@ -1,5 +1,5 @@
 // The gaps as a form, in local time. It sends UTC.
-import { h } from "/shared/page.js";
+import { h, written } from "/shared/page.js";
 import { DAY, dateOf, localText, minuteOf, minutesOfLocal, textOf } from "/shared/time.js";
 import { length, localMoment, monthName, say } from "/shared/say.js";
 import { readDrivers, readEntries, readForm } from "/shared/read.js";
@@ -86,7 +86,7 @@ class GapForm {
     this.told.textContent = say.rows(count);
     this.save.disabled = count === 0 || this.isSending;
     unfinished.delete("gaps");
-    if (count) unfinished.add("gaps");
+    if (count && this.node.isConnected) unfinished.add("gaps"); // a reply may come when another page is shown
   }
 
   /** @type {() => Piece[]} the pieces that are to be saved */
@@ -185,7 +185,7 @@ export async function page(context) {
   const [person] = readDrivers(await ask(`/drivers/${driver}`, signal));
   const gaps = readForm(await ask(`/drivers/${driver}/form`, signal)),
     entries = readEntries(await ask(`/drivers/${driver}/entries`, signal));
-  const title = head([h("bdi", {}, person.name), `: ${say.gaps}`], tool(`/drivers/${driver}/entries`, say.entries),
+  const title = head([written(person.name), `: ${say.gaps}`], tool(`/drivers/${driver}/entries`, say.entries),
     tool(`/drivers/${driver}/${thisMonth()}`, monthName(thisMonth())));
   if (gaps.length === 0) return [title, h("p", { class: "box good" }, say.noGapsAtAll)];
   const form = new GapForm(driver, gaps.map((gap) => ({ ...gap, activity: "", note: "" })), entries.length, context);

@@ -1,5 +1,5 @@
 // What is left until the limits, for all drivers and for one. Each loads what the other doesn't need.
-import { h } from "/shared/page.js";
+import { h, written } from "/shared/page.js";
 import { DAY, textOf, tomorrow } from "/shared/time.js";
 import { both, length, localMoment, monthName, say, shortUtcDay } from "/shared/say.js";
 import { leftOf, readAhead, readDebts, readDrivers } from "/shared/read.js";
@@ -72,7 +72,7 @@ function columns() {
       (left, row) => (left.weekly !== null && left.weekly - row.ahead.start < DAY ? "warn-text" : "")],
     [(left, row) => `${row.ahead.reduced}/3 · ${row.ahead.extended}/2`, "quiet"],
   ];
-  return [{ head: driver, cell: (row) => [link(`/drivers/${row.driver}/left`, row.name), h("small", {}, ` ${row.driver}`)] },
+  return [{ head: driver, cell: (row) => [link(`/drivers/${row.driver}/left`, written(row.name)), h("small", {}, ` ${row.driver}`)] },
     { head: held, kind: "when", cell: heldCell },
     ...cells.map(([cell, kind], k) => ({
       head: heads[k], kind: "num", kindOf: (row) => (typeof kind === "string" ? kind : kind(leftOf(row.ahead), row)),
@@ -83,7 +83,7 @@ function columns() {
 /** Of whom nothing can be said, and why.
  * @type {(rows: Forecast[]) => import("./office.js").Content} */
 const untold = (rows) => (rows.length === 0 ? null : [h("h2", {}, say.leftUntold), h("ul", { id: "untold" }, rows.map((row) => h("li", {},
-  link(`/drivers/${row.driver}/${thisMonth()}`, row.name), ` (${row.driver}): `,
+  link(`/drivers/${row.driver}/${thisMonth()}`, written(row.name)), ` (${row.driver}): `,
     row.held === null ? say.noLeft : row.ahead === null ? say.leftCrew
     : `${say.colHeld} ${localMoment(row.held)}. ${say.leftStale(staleOf(row))}`)))]);
 
@@ -126,7 +126,7 @@ async function leftOne({ signal, args: [driver], again }) {
   const ahead = readAhead(await ask(`/drivers/${driver}/ahead/${textOf(startOfDriving()).replace(" ", "/")}`, signal)),
     [person] = readDrivers(await ask(`/drivers/${driver}`, signal));
   const debts = readDebts(await ask(`/drivers/${driver}/debts`, signal));
-  const title = head([h("bdi", {}, person.name), `: ${say.left}`], tool(`/drivers/${driver}/${thisMonth()}`, monthName(thisMonth())),
+  const title = head([written(person.name), `: ${say.left}`], tool(`/drivers/${driver}/${thisMonth()}`, monthName(thisMonth())),
     printButton());
   const held = isNever(ahead) ? "" : ` · ${say.colHeld} ${both(ahead.held)}`;
   return [title, startForm(again), h("p", {}, h("b", {}, `${say.startAt}: ${both(ahead.start)}`), held), toldOf(ahead, meters),

@@ -1,10 +1,10 @@
 // A letter to a driver about the breaches of a month, in UTC with local time.
-import { h } from "/shared/page.js";
+import { h, written } from "/shared/page.js";
 import { DAY, now, rangeOf } from "/shared/time.js";
 import { formal, languageNow, localMoment, monthName, say, withLanguage } from "/shared/say.js";
 import { cardOf, readDrivers, readEntries, readFiles, readVersion, readWhy } from "/shared/read.js";
 import { breachItem, isUnfinished } from "/shared/parts.js";
-import { ask, button, head, languageField, tool } from "./office.js";
+import { ask, button, head, languageField, telling, tool } from "./office.js";
 
 const SENDER = "tacho.sender", LANGUAGE = "tacho.letter.", DAYS_TO_ANSWER = 14, DIGITS = 12, ANSWER_LINES = 3;
 
@@ -32,21 +32,21 @@ function sourceLine(files, entries, program) {
     ` ${say.foot}`, entries.length ? ` ${say.letterHand} ${entries.map(entryText).join("; ")}.` : "");
 }
 
-/** The sheet that is printed, in the language that is set.
- * @type {(parts: { person: any, ready: any[], files: any[], entries: any[], program: string, month: string, language: string }) =>
- *  HTMLElement} */
-function sheetOf({ person, ready, files, entries, program, month, language }) {
+/** The sheet that is printed, in the language that is set. `ofMonth` are the month's entries; evidence may be of earlier months.
+ * @type {(parts: { person: any, ready: any[], files: any[], entries: any[], ofMonth: any[], program: string, month: string,
+ *  language: string }) => HTMLElement} */
+function sheetOf({ person, ready, files, entries, ofMonth, program, month, language }) {
   const { field, printed } = sender();
   const day = (minute) => localMoment(minute, true).slice(0, -6);
   return h("article", { class: "sheet", lang: language },
     h("div", { class: "address" }, h("div", {}, field, printed), h("div", {}, `${say.date2}: ${day(now())}`)),
-    h("p", {}, person.name, h("br"), h("span", { class: "note" }, `${say.cardNo}: ${cardOf(person.holder)}`)),
-    h("h2", {}, say.letterHead(monthName(month))), h("p", {}, say.dear(person.name)),
+    h("p", {}, written(person.name), h("br"), h("span", { class: "note" }, `${say.cardNo}: ${cardOf(person.holder)}`)),
+    h("h2", {}, say.letterHead(monthName(month))), h("p", {}, telling(say.dear, person.name)),
     ready.length === 0 ? h("p", {}, say.letterNone) : [
       h("p", {}, say.letterIntro(ready.length, monthName(month))),
-      h("ol", { class: "list" }, ready.map((one, k) => breachItem(one, { formalTimes: true, number: k + 1 }))),
+      h("ol", { class: "list" }, ready.map((one, k) => breachItem(one, { formalTimes: true, number: k + 1, entries }))),
       h("div", { class: "end" }, h("p", {}, `${say.letterAsk} ${day(now() + DAYS_TO_ANSWER * DAY)}.`), h("p", {}, say.letterInstruct),
-        sourceLine(files, entries, program),
+        sourceLine(files, ofMonth, program),
         h("h3", {}, say.answer), Array.from({ length: ANSWER_LINES }, () => h("div", { class: "lines" })),
         h("div", { class: "signs" }, h("div", {}, say.forOffice, h("br"), say.signed), h("div", {}, say.forDriver, h("br"), say.signed)))]);
 }
@@ -61,7 +61,7 @@ export async function page({ signal, args: [driver, month], again }) {
   const ready = all.filter((one) => !isUnfinished(one)), language = languageOf(driver);
   const choose = languageField(language, (one) => { localStorage.setItem(LANGUAGE + driver, one); again(); }, { id: "letter-language" });
   return [h("div", { class: "no-print" },
-    head([`${say.letter}: `, h("bdi", {}, person.name), `, ${monthName(month)}`],
+    head([`${say.letter}: `, written(person.name), `, ${monthName(month)}`],
       h("label", { for: "letter-language" }, say.letterLanguage), choose,
       tool(`/drivers/${driver}/${month}`, monthName(month)), button(say.print, () => print(), { class: "main" })),
     ready.length < all.length ? h("div", { class: "box warn", id: "left-out" }, h("p", {}, say.letterOpen(all.length - ready.length)))
@@ -69,6 +69,6 @@ export async function page({ signal, args: [driver, month], again }) {
     h("p", { class: "note" }, `${say.from}: ${say.senderHelp}`)),
   await withLanguage(language, () => sheetOf({
     person, ready, month, language, program, files: files.filter(isWithin),
-      entries: entries.filter((one) => one.state === "kept" && isWithin(one)),
+      entries, ofMonth: entries.filter((one) => one.state === "kept" && isWithin(one)),
   }))];
 }

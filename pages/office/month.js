@@ -1,5 +1,5 @@
 // A driver's month.
-import { Problem, h } from "/shared/page.js";
+import { Problem, h, written } from "/shared/page.js";
 import { monthStep, now, offsetText, rangeOf, zone } from "/shared/time.js";
 import { monthName, say } from "/shared/say.js";
 import { readBreaches, readDebts, readEntries, readFiles, readGaps, readSheet, readSpans, readWhy } from "/shared/read.js";
@@ -65,10 +65,10 @@ export async function page({ signal, args: [driver, month, day] }) {
   const seen = range[1] - range[0] - unseen.reduce((sum, one) => sum + one.past - one.start, 0);
   const shown = chart({ spans, gaps, breaches, unseen, days, range });
   if (day) shown.map((one) => one.querySelector(`#day-${month}-${day}`)).find(Boolean)?.classList.add("seek");
-  return [head([h("bdi", {}, sheet.name), ` (${driver}), ${monthName(month)}`], toolsOf(driver, month)), facts(sheet.total),
+  return [head([written(sheet.name), ` (${driver}), ${monthName(month)}`], toolsOf(driver, month)), facts(sheet.total),
     notExaminedBox(stretches, range, end, gaps, link(`/drivers/${driver}/gaps`, say.gapForm)),
     h("h2", { id: "breaches-head" }, `${say.breaches}${breaches.length ? `: ${breaches.length}` : ""}`),
-    breaches.length ? h("ul", { class: "list", "aria-labelledby": "breaches-head" }, breaches.map((one) => breachItem(one)))
+    breaches.length ? h("ul", { class: "list", "aria-labelledby": "breaches-head" }, breaches.map((one) => breachItem(one, { entries })))
       : h("p", { id: "no-breach" }, seen > 0 ? say.noBreach : say.nothingExamined),
     h("section", { class: "keep" }, h("h2", {}, say.chart), shown),
     h("div", { class: "tellings" },

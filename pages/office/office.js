@@ -1,6 +1,6 @@
 // The frame of the office's pages: the key, the address after #, which names the page, and what several pages use. Each page is a module
 // that is loaded when it is first opened.
-import { $, KEY_FORM, MODULE, Problem, forget, h, keep, key, listed, moduleAt, reading } from "/shared/page.js";
+import { $, KEY_FORM, MODULE, Problem, forget, h, keep, key, listed, moduleAt, reading, written } from "/shared/page.js";
 import { localText, minutesOfLocal, monthOf, now, offsetText, textOf, zone } from "/shared/time.js";
 import { readVersion } from "/shared/read.js";
 import { LANGUAGES, languageNow, ready, say, speak } from "/shared/say.js";
@@ -10,7 +10,7 @@ import { LANGUAGES, languageNow, ready, say, speak } from "/shared/say.js";
  *  requests, the parts of its address, and how to show it anew */
 /** @typedef {{ head: string, cell: (row: any) => Content, kind?: string, kindOf?: (row: any) => string }} Column a column of a list */
 
-const IDLE = 30 * 60_000, PATIENCE = 35_000;
+const IDLE = 30 * 60_000;
 
 // What pages leave to others. A log-out clears it.
 
@@ -47,6 +47,14 @@ export const notice = (kind, ...children) =>
 /** @type {() => HTMLElement} the line about local time */
 export const zoneLine = () => h("p", { class: "note" }, say.zoneNote(zone(), offsetText(now())));
 
+/** A sentence with texts that somebody wrote, each in its element. The sentence gets a sign of no script in place of each text, so that no
+ *  text is taken for another.
+ * @type {(sentence: (...texts: string[]) => string, ...texts: string[]) => Content} */
+export function telling(sentence, ...texts) {
+  const signs = texts.map((_, k) => String.fromCharCode(0xe000 + k));
+  return sentence(...signs).split(/([\ue000-\uf8ff])/).map((part, k) => (k % 2 ? written(texts[signs.indexOf(part)]) : part));
+}
+
 /** A row of a list.
  * @type {(columns: Column[], row: any) => HTMLElement} */
 export const listRow = (columns, row) => h("tr", { role: "row" }, columns.map((column, k) => {
@@ -66,11 +74,11 @@ export function listTable(columns, rows, body = h("tbody", { role: "rowgroup" })
 }
 
 /** Asks a question in a dialog. Resolves to whether the action was chosen.
- * @type {(question: string, action: string) => Promise<boolean>} */
-export const confirmed = (question, action) => new Promise((resolve) => {
+ * @type {(question: Content, action: string, other?: string) => Promise<boolean>} */
+export const confirmed = (question, action, other = say.keepIt) => new Promise((resolve) => {
   const dialog = h("dialog", { "aria-labelledby": "question", onclose: () => { dialog.remove(); resolve(dialog.returnValue === "yes"); } },
     h("p", { id: "question" }, question),
-    h("div", { class: "row" }, button(action, () => dialog.close("yes"), { class: "main" }), button(say.keepIt, () => dialog.close(""))));
+    h("div", { class: "row" }, button(action, () => dialog.close("yes"), { class: "main" }), button(other, () => dialog.close(""))));
   document.body.append(dialog);
   dialog.showModal();
 });
@@ -108,36 +116,16 @@ export function momentField(id, label, start) {
 /** @type {Promise<unknown>} */
 let queue = Promise.resolve();
 
-/** Says that there were too many requests, and that the page asks again.
+/** Says that there were too many requests, and that the page asks again. What takes long says no more beside it.
  * @type {(seconds: number) => void} */
-export const tellWait = (seconds) => tellBusy(say.askAgain(seconds), true);
-
-/** A reading. Where no reply comes within a time, it is given up.
- * @type {(path: string, signal: AbortSignal) => Promise<string>} */
-async function inTime(path, signal) {
-  signal.throwIfAborted();
-  const late = new AbortController();
-  let timer = setTimeout(() => late.abort(), PATIENCE);
-  const wait = (seconds) => {
-    tellWait(seconds);
-    clearTimeout(timer);
-    timer = setTimeout(() => late.abort(), PATIENCE + 1000 * seconds);
-  };
-  try {
-    return await reading(path, { signal: AbortSignal.any([signal, late.signal]), wait });
-  } catch (fault) {
-    throw late.signal.aborted && !signal.aborted ? new Problem("noReply") : fault;
-  } finally {
-    clearTimeout(timer);
-  }
-}
+export const tellWait = (seconds) => { timers.forEach(clearTimeout); tellBusy(say.askAgain(seconds), true); };
 
 /** A reading, once the readings before it have ended: the archive answers one after the other, and a wrong key is sent once.
  * @type {(path: string, signal: AbortSignal) => Promise<string>} */
 export function ask(path, signal) {
-  const mine = queue.then(() => inTime(path, signal));
+  const mine = queue.then(() => reading(path, { signal, wait: tellWait }));
   queue = mine.then(() => undefined, () => undefined);
-  return mine;
+  return busy(mine);
 }
 
 /** @type {(fault: any) => string} the sentence of a fault of a reading */
@@ -202,7 +190,10 @@ function showFrame(to) {
   const isAt = (where) => (where === "/" ? to === "/" : to.startsWith(where.startsWith("/month") ? "/month" : where));
   $("nav").replaceChildren(...(isIn ? places.map(([where, text]) => link(where, text, { "aria-current": isAt(where) ? "page" : null }))
     : []));
-  const change = (language) => busy(speak(language)).then(() => render(), (fault) => render(notice("bad", sentenceOf(fault))));
+  const change = async (language) => {
+    if (!await mayLeave()) { showFrame(to); return; }
+    busy(speak(language)).then(() => render(), (fault) => render(notice("bad", sentenceOf(fault))));
+  };
   const select = languageField(languageNow(), change, { id: "language", class: "small", "aria-label": say.language });
   $("tools").replaceChildren(select, ...(isIn ? [button(say.logOut, leave, { class: "small", id: "log-out" })] : []));
 }
@@ -235,13 +226,31 @@ async function contentOf(to, signal, again) {
   return module.page({ signal, args: found[0].exec(to).slice(1), again });
 }
 
+/** The address of what is shown, or is about to be. */
+let place = "";
+
+/** Whether the page may be left: where hours are filled in and not saved it asks, once at a time.
+ * @type {() => Promise<boolean>} */
+const mayLeave = async () => !unfinished.has("gaps")
+  || ($("question") === null && await confirmed(say.leaveGaps, say.leaveUnsaved, say.stay));
+
+/** Shows the page of another address, if this one may be left. Until that is answered, the address is that of what is shown.
+ * @type {() => Promise<void>} */
+async function follow() {
+  if (!unfinished.has("gaps")) { render(); return; }
+  history.pushState(null, "", `#${place}`);
+  if (!await mayLeave()) return;
+  unfinished.delete("gaps");
+  history.back();
+}
+
 /** Shows the page of the address. Its content stays until the next one is there.
  * @type {(notice?: Node | null) => Promise<void>} */
 async function render(told = null) {
   current.abort();
   unfinished.delete("gaps");
   const mine = new AbortController(), to = address();
-  current = mine;
+  [current, place] = [mine, to];
   showFrame(to);
   if (key() === null) { showSignIn(told); return; }
   let made;
@@ -334,10 +343,11 @@ addEventListener("keydown", stay, true);
 addEventListener("pointerdown", stay, true);
 setInterval(leaveIfIdle, 5000);
 document.addEventListener("visibilitychange", leaveIfIdle);
-addEventListener("pageshow", (event) => { if (event.persisted && key() !== null) logOut(notice("good", say.loggedOut)); });
+// The browser may keep the page while another is shown, whose log-out this one knows nothing of.
+addEventListener("pageshow", (event) => { if (event.persisted) logOut(notice("good", say.loggedOut)); });
 addEventListener("beforeunload", (event) => { if (unfinished.size > 0) event.preventDefault(); });
 $("skip").addEventListener("click", (event) => { event.preventDefault(); $("content").focus(); });
 ready.then(() => {
-  addEventListener("hashchange", () => render());
+  addEventListener("hashchange", follow);
   render();
 });

@@ -1,5 +1,5 @@
 // A month of all drivers: what each did, how much of it was examined, and each breach.
-import { h } from "/shared/page.js";
+import { h, written } from "/shared/page.js";
 import { DAY, monthStep, now, rangeOf } from "/shared/time.js";
 import { amountText, both, hm, length, monthName, say } from "/shared/say.js";
 import { readIncidents, readOverview } from "/shared/tables.js";
@@ -25,7 +25,7 @@ const dimIfNone = (name) => (row) => (row[name] ? "" : "quiet dim");
  * @type {(month: string, total: any) => import("./office.js").Column[]} */
 const columnsOf = (month, total) => [
   { head: say.colDriver, cell: (row) => (row.driver === null ? row.name
-    : [link(`/drivers/${row.driver}/${month}`, row.name), h("small", {}, ` ${row.driver}`)]) },
+    : [link(`/drivers/${row.driver}/${month}`, written(row.name)), h("small", {}, ` ${row.driver}`)]) },
   ...["drive", "work", "available", "rest", "crew", "none"].filter((name) => total[name] || name === "drive")
     .map((name) => ({ head: say.sheetColumns[1 + COLUMNS.indexOf(name)], kind: "num", kindOf: dimIfNone(name), cell: time(name) })),
   { head: say.notExamined, kind: "num", kindOf: (row) => (row.missing > 0 ? "" : "quiet dim"),
@@ -48,7 +48,7 @@ function monthTable(columns, rows, total) {
 function breachesOf(rows, month) {
   if (rows.length === 0) return h("p", {}, say.noBreach);
   return listTable([
-    { head: say.colDriver, cell: (row) => [link(`/drivers/${row.driver}/${month}`, row.name), h("small", {}, ` ${row.driver}`)] },
+    { head: say.colDriver, cell: (row) => [link(`/drivers/${row.driver}/${month}`, written(row.name)), h("small", {}, ` ${row.driver}`)] },
     { head: say.breach, kind: "first", cell: (row) => `${say.short[row.kind]} (${row.kind})` },
     { head: say.extent, kind: "num", cell: (row) => amountText(row) || "–" },
     { head: capital(say.at), cell: (row) => h("span", { class: "v" }, both(row.moment)) },

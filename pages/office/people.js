@@ -1,9 +1,9 @@
 // The drivers: one or many are added, and a key, base or name is changed. A key is made here, at random, and shown once.
-import { $, h, key } from "/shared/page.js";
+import { $, h, key, written } from "/shared/page.js";
 import { DAY, dateOf, minuteOf, now, weekdayOf } from "/shared/time.js";
 import { say, utcDay } from "/shared/say.js";
 import { cardOf, holderOf, readDrivers } from "/shared/read.js";
-import { ask, atLogOut, button, confirmed, head, link, listTable, notice, proposed } from "./office.js";
+import { ask, atLogOut, button, confirmed, head, link, listTable, notice, proposed, telling } from "./office.js";
 import { command, field, isUnsure, refusal } from "./commands.js";
 
 const LETTERS = "abcdefghijkmnopqrstuvwxyzABCDEFGHJKLMNPQRSTUVWXYZ23456789", KEY_LENGTH = 32, BYTES = 256;
@@ -31,7 +31,7 @@ function newKey() {
 // Slips
 
 /** @type {(slip: Slip) => HTMLElement} */
-const slipOf = (slip) => h("article", { class: "sheet slip" }, h("h2", {}, say.slipHead), h("p", {}, slip.name),
+const slipOf = (slip) => h("article", { class: "sheet slip" }, h("h2", {}, say.slipHead), h("p", {}, written(slip.name)),
   h("p", {}, say.slipText, " ", h("b", { class: "where" }, localStorage.getItem(PLACE) || "………………………………")),
   h("p", { class: "key" }, h("code", {}, slip.key.replace(/(.{4})(?=.)/g, "$1 "))), h("p", { class: "note" }, say.slipCare));
 
@@ -67,7 +67,7 @@ async function register(one) {
 let isActing = false;
 
 /** Does something, once, and shows the page anew with what became of it.
- * @type {(work: () => Promise<{ status: number, line: string }>, expected: string, said: () => string,
+ * @type {(work: () => Promise<{ status: number, line: string }>, expected: string, said: () => import("./office.js").Content,
  *  again: (notice?: Node) => void) => Promise<void>} */
 async function act(work, expected, said, again) {
   if (isActing) return;
@@ -86,13 +86,13 @@ async function act(work, expected, said, again) {
 /** Gives a driver a new key, after a question.
  * @type {(person: any, again: (notice?: Node) => void) => Promise<void>} */
 async function changeKey(person, again) {
-  if (!await confirmed(say.newKeyAsk(person.name), say.newKey)) return;
+  if (!await confirmed(telling(say.newKeyAsk, person.name), say.newKey)) return;
   const made = newKey();
   await act(async () => {
     const told = await command(`/drivers/${person.number}/key`, `${made}\n`);
     if (told.line === `key ${person.number}` || isUnsure(told.status)) slips.push({ name: person.name, key: made });
     return told;
-  }, `key ${person.number}`, () => say.newKeyDone(person.name), again);
+  }, `key ${person.number}`, () => telling(say.newKeyDone, person.name), again);
 }
 
 /** The form that changes a driver's name and base.
@@ -105,13 +105,13 @@ function changeForms(person, again) {
   return h("details", { class: "change no-print" }, h("summary", { "aria-label": `${say.setBase}: ${person.name}` }, say.setBase),
     h("form", { class: "row", onsubmit: (event) => {
       event.preventDefault();
-      act(() => command(`/drivers/${number}/name`, `${name.value.trim()}\n`), `name ${number}`, () => say.nameDone(name.value.trim()),
-        again);
+      act(() => command(`/drivers/${number}/name`, `${name.value.trim()}\n`), `name ${number}`,
+        () => telling(say.nameDone, name.value.trim()), again);
     } }, name, h("button", { class: "small" }, say.setName)),
     h("form", { class: "row", onsubmit: (event) => {
       event.preventDefault();
       act(() => command(`/drivers/${number}/base/${base.value}`), `base ${base.value}`,
-        () => say.baseDone(person.name, utcDay(minuteOf(base.value))), again);
+        () => telling((who) => say.baseDone(who, utcDay(minuteOf(base.value))), person.name), again);
     } }, base, h("button", { class: "small" }, say.setBaseTo)));
 }
 
@@ -131,7 +131,7 @@ function addForm(people, again) {
       const told = await register(one);
       if (told.status === 201) proposed.person = null;
       return told;
-    }, `registered ${one.driver}`, () => say.addedDriver(one.name, one.driver), again);
+    }, `registered ${one.driver}`, () => telling((who) => say.addedDriver(who, one.driver), one.name), again);
   };
   const fromFile = async (event) => {
     const whose = holderOf(await event.target.files[0].arrayBuffer());
@@ -189,13 +189,14 @@ async function addMany(file, list, again) {
   const all = registrationsOf(await file.text());
   if (all === null) { list.replaceChildren(h("li", { class: "bad" }, h("span", {}, say.csvHead(HEAD.join(","))))); return; }
   let added = 0;
-  const items = all.map((one) => list.appendChild(h("li", {}, h("span", {}, say.waiting(`${one.driver} ${one.name}`)))));
+  const waiting = (one) => h("li", {}, h("span", {}, telling((who) => say.waiting(`${one.driver} ${who}`), one.name)));
+  const items = all.map((one) => list.appendChild(waiting(one)));
   for (const [k, one] of all.entries()) {
     const { status, line } = await register(one).catch(() => ({ status: 0, line: "" }));
     const isAdded = status === 201;
     added += isAdded ? 1 : 0;
     items[k].className = isAdded ? "good" : "bad";
-    items[k].replaceChildren(h("span", {}, `${one.driver} ${one.name}: `,
+    items[k].replaceChildren(h("span", {}, `${one.driver} `, written(one.name), ": ",
       isAdded ? say.isAdded : isUnsure(status) ? say.unsureDone : refusal(status, line)));
   }
   manyResults = [...items];
@@ -216,7 +217,7 @@ function manyForm(again) {
 
 /** @type {(again: (notice?: Node) => void) => import("./office.js").Column[]} */
 const columnsOf = (again) => [
-  { head: say.colDriver, cell: (one) => [h("bdi", {}, one.name), h("small", {}, ` ${one.number}`)] },
+  { head: say.colDriver, cell: (one) => [written(one.name), h("small", {}, ` ${one.number}`)] },
     { head: say.card, cell: (one) => cardOf(one.holder) },
   { head: say.base, kind: "when", cell: (one) => utcDay(minuteOf(one.base)) }, { head: say.cards, kind: "num", cell: (one) => one.files },
   { head: say.newKey, cell: (one) => button(say.newKey, () => changeKey(one, again),

@@ -1,5 +1,5 @@
 // The start page: all drivers, most urgent first. What is left comes later, into cells that are there already.
-import { h } from "/shared/page.js";
+import { h, written } from "/shared/page.js";
 import { DAY, localText, monthStep, now, textOf, tomorrow } from "/shared/time.js";
 import { daysSince, length, localMoment, localTime, monthName, say } from "/shared/say.js";
 import { readForecast, readStanding } from "/shared/tables.js";
@@ -71,7 +71,7 @@ function columnsOf(leftCells) {
     cell: (row) => (row[name] ? link(`/drivers/${row.driver}/${which}`, String(row[name])) : "–"),
   });
   return [
-    { head: say.colDriver, cell: (row) => [link(`/drivers/${row.driver}/${month}`, row.name), h("small", {}, ` ${row.driver}`)] },
+    { head: say.colDriver, cell: (row) => [link(`/drivers/${row.driver}/${month}`, written(row.name)), h("small", {}, ` ${row.driver}`)] },
     { head: say.colFirst, kind: "first", cell: (row) => link(row.task.to, h("span", {}, row.task.text),
       { class: `todo ${row.task.level}` }) },
     { head: say.colHeld, kind: "when", kindOf: (row) => (row.held === null ? "quiet" : ""), cell: heldCell },
@@ -125,8 +125,8 @@ function sums(rows, show) {
 /** @type {(rows: Standing[]) => import("./office.js").Content} the drivers of whom nothing has been known for long, folded */
 const goneList = (rows) => (rows.length === 0 ? null : h("details", { class: "gone" }, h("summary", {}, say.gone(rows.length, GONE)),
   h("p", { class: "note" }, say.goneWhy),
-  h("ul", {}, rows.map((row) => h("li", {}, link(`/drivers/${row.driver}/${thisMonth()}`, row.name), ` (${row.driver}) · ${say.colHeld} `,
-    localMoment(row.held, true))))));
+  h("ul", {}, rows.map((row) => h("li", {}, link(`/drivers/${row.driver}/${thisMonth()}`, written(row.name)),
+    ` (${row.driver}) · ${say.colHeld} `, localMoment(row.held, true))))));
 
 /** @type {(context: import("./office.js").Context) => Promise<import("./office.js").Content>} */
 export async function page({ signal, again }) {

@@ -234,6 +234,9 @@ export const WORDS = {
   lookAgain: "Noch einmal nachsehen",
   otherEntries: "Die Verbindung brach ab, und inzwischen kamen andere Einträge hinzu. Das Formular zeigt, was noch unbekannt ist; die Einträge zeigen das Übrige.",
   unsureEntries: "Es ist nicht bekannt, ob das gespeichert wurde. Bevor das bekannt ist, kann nichts gesendet werden.",
+  leaveGaps: "Hier sind Stunden ausgefüllt und nicht gespeichert.",
+  leaveUnsaved: "Verlassen, ohne zu speichern",
+  stay: "Bleiben",
 
   // Entries
   entriesHelp: "Stunden, die von Hand eingetragen wurden. Ein zurückgezogener Eintrag bleibt in der Liste und gibt nichts.",

@@ -234,6 +234,9 @@ export const WORDS = {
   lookAgain: "Look again",
   otherEntries: "The connection broke, and other entries were added meanwhile. The form shows what is still unknown; the entries show the rest.",
   unsureEntries: "It isn't known whether this was saved. Before that is known, nothing can be sent.",
+  leaveGaps: "Hours are filled in here and not saved.",
+  leaveUnsaved: "Leave without saving",
+  stay: "Stay",
 
   // Entries
   entriesHelp: "Hours that were entered by hand. An entry that is withdrawn stays listed, and gives nothing.",

@@ -70,6 +70,16 @@ export function svg(name, attributes = {}, ...children) {
 }
 
 /**
+ * A text that somebody wrote, as a name, an author or a note. It may have signs that turn the direction of writing, end lines or pile up:
+ * they change nothing outside of its element (page.css).
+ * @param {string} text
+ * @returns {HTMLElement}
+ */
+export function written(text) {
+  return h("bdi", {}, text);
+}
+
+/**
  * The element with an id.
  * @param {string} id
  * @returns {any} the element, or null
@@ -148,8 +158,15 @@ function change(by) {
  * @typedef {{method?: string, body?: BodyInit, signal?: AbortSignal, key?: string, wait?: (seconds: number) => void}} Options
  */
 
+/** How long a reading waits for its reply, in milliseconds. The service gives a client 30 seconds. */
+const PATIENCE = 35000;
+
+/** Each begins the wait of a reading anew. @type {Set<() => void>} */
+const waits = new Set();
+
 /**
- * A request and its reply.
+ * A request and its reply. The service answers one request after the other, so a reading's wait begins anew whenever another request has
+ * ended. A command has no such end: it may have been done.
  * @param {string} path
  * @param {Options} options
  * @param {(reply: Response) => Promise<T>} take what takes the body
@@ -157,13 +174,45 @@ function change(by) {
  * @returns {Promise<T>}
  */
 async function asked(path, { method = "GET", body, signal, key: other }, take) {
+  const ending = new AbortController();
+  const end = () => ending.abort();
+  let timer = 0;
+  let isLate = false;
+  const wait = () => {
+    clearTimeout(timer);
+    timer = setTimeout(() => {
+      isLate = true;
+      end();
+    }, PATIENCE);
+  };
+  const stop = () => {
+    clearTimeout(timer);
+    waits.delete(wait);
+  };
   change(1);
   try {
+    signal?.throwIfAborted();
+    signal?.addEventListener("abort", end);
+    if (method === "GET") {
+      waits.add(wait);
+      wait();
+    }
     const headers = { "x-key": other ?? key() ?? "" };
-    return await take(await fetch(path, { method, body, signal, headers, cache: "no-store", credentials: "omit", redirect: "error" }));
+    const reply = await fetch(path, {
+      method, body, signal: ending.signal, headers, cache: "no-store", credentials: "omit", redirect: "error",
+    });
+    stop();
+    return await take(reply);
   } catch (fault) {
+    if (isLate) {
+      throw new Problem("isDown");
+    }
     throw /** @type {Error} */ (fault).name === "AbortError" ? fault : new Problem("noConnection");
   } finally {
+    stop();
+    if (!isLate) {
+      waits.forEach((again) => again());
+    }
     change(-1);
   }
 }

@@ -5,7 +5,7 @@ import { amountText, both, bothTimes, formal, hm, length, localMoment, localTime
   from "./say.js";
 import { DAY, dateOf, offsetText, weekdayOf } from "./time.js";
 
-/** @import { Ahead, Breach, CardFile, Day, Debt, Evidence, Range, ShownBreach, Span, Stretch } from "./read.js" */
+/** @import { Ahead, Breach, CardFile, Day, Debt, Entry, Evidence, Range, ShownBreach, Span, Stretch } from "./read.js" */
 /** @typedef {Range & {cause: string, from: number}} Unseen what isn't examined, why, and from when on it is examined again */
 
 // Breaches
@@ -61,20 +61,37 @@ function momentCell(minute, isFormal) {
 }
 
 /**
+ * Whether hours that were entered by hand lie in a line of evidence; in a sum of driving, whether driving does. A card file may have given
+ * the same hours: the archive doesn't tell. Of a rest of which one end isn't known, the minute at the other end counts.
+ * @param {Evidence} line
+ * @param {Entry[]} entries
+ * @returns {boolean}
+ */
+function isByHand({ word, start, past, day = NaN, total, isAtRest }, entries) {
+  const isSum = word === "date" || (word === "week" && total !== undefined);
+  const known = isSum || isAtRest ? [day, day + (word === "date" ? DAY : 7 * DAY)]
+    : [start ?? (past ?? NaN) - 1, past ?? (start ?? NaN) + 1];
+  return entries.some((one) =>
+    one.state === "kept" && (!isSum || one.activity === "drive") && one.start < known[1] && known[0] < one.past);
+}
+
+/**
  * A line of evidence as a row: what it is, from, to, length, and the sum or a remark.
  * @param {Breach} breach
  * @param {Evidence} line
  * @param {boolean} isFormal
+ * @param {Entry[]} entries
  * @returns {HTMLElement}
  */
-function evidenceRow(breach, line, isFormal) {
+function evidenceRow(breach, line, isFormal, entries) {
   const limit = LIMITS.get(breach.kind);
   const isOver = limit !== undefined && line.word === "drive" && (line.total ?? 0) > limit;
   const remarks = remarksOf(line);
   const isDay = line.day !== undefined && line.word !== "reduced";
   const first = isDay ? [shortUtcDay(/** @type {number} */ (line.day))] : momentCell(line.start ?? line.limit ?? line.start, isFormal);
   const last = remarks.length > 0 ? remarks.join(", ") : line.total === undefined ? "" : hm(line.total);
-  return h("tr", { class: isOver ? "over" : null }, h("th", { scope: "row" }, say.ev[line.word]),
+  return h("tr", { class: isOver ? "over" : null },
+    h("th", { scope: "row" }, say.ev[line.word], isByHand(line, entries) ? h("i", { class: "hand" }, ` (${say.byHand})`) : null),
     h("td", {}, first),
     h("td", {}, isDay ? momentCell(line.limit, isFormal) : momentCell(line.past, isFormal)),
     h("td", { class: "num" }, typeof line.length === "number" ? hm(line.length) : ""),
@@ -98,15 +115,17 @@ function shownEvidence({ kind, since, evidence }) {
 /**
  * What shows a breach, as a table.
  * @param {ShownBreach} breach
- * @param {boolean} [isFormal] whether times are UTC first, as in a letter
+ * @param {boolean} isFormal whether times are UTC first, as in a letter
+ * @param {Entry[]} entries
  * @returns {HTMLElement}
  */
-export function evidenceTable(breach, isFormal = false) {
+function evidenceTable(breach, isFormal, entries) {
   const heads = (isFormal ? say.evHeadFormal : say.evHead).map((/** @type {string} */ one, /** @type {number} */ at) =>
     h("th", { scope: "col", class: at === 3 ? "num" : null }, one));
-  return h("div", { class: "wide" }, h("table", { class: "evidence" },
-    h("thead", {}, h("tr", {}, heads)),
-    h("tbody", {}, shownEvidence(breach).map((line) => evidenceRow(breach, line, isFormal)))));
+  const rows = shownEvidence(breach).map((line) => evidenceRow(breach, line, isFormal, entries));
+  const hasHand = rows.some((row) => row.querySelector(".hand"));
+  return h("div", { class: "wide" }, h("table", { class: "evidence" }, h("thead", {}, h("tr", {}, heads)), h("tbody", {}, rows)),
+    hasHand ? h("p", { class: "note" }, say.byHandHelp) : null);
 }
 
 /**
@@ -139,15 +158,15 @@ function sentenceOf(breach) {
 /**
  * A breach: its sentence, when, by which Article, and what shows it.
  * @param {ShownBreach} breach
- * @param {{open?: boolean, formalTimes?: boolean, number?: number | null}} [options]
+ * @param {{entries: Entry[], open?: boolean, formalTimes?: boolean, number?: number | null}} options
  * @returns {HTMLElement}
  */
-export function breachItem(breach, { open = false, formalTimes = false, number = null } = {}) {
+export function breachItem(breach, { entries, open = false, formalTimes = false, number = null }) {
   const { kind, at, since, evidence } = breach;
   const moment = formalTimes ? formal : both;
   const article = say.article(ARTICLES[kind], kind);
   const counted = `${say.since} ${moment(since)}`;
-  const table = evidenceTable(breach, formalTimes);
+  const table = evidenceTable(breach, formalTimes, entries);
   const limits = (/** @type {string} */ text) => h("p", { class: "note limits" }, text);
   const folded = h("details", { open }, h("summary", {}, say.evidence), h("p", { class: "note" }, `${counted} · ${article}`), table);
   return h("li", { class: `breach${evidence.length < 13 ? " short" : ""}`, id: `breach-${kind}-${at}` },

@@ -88,6 +88,8 @@ export const WORDS = {
   inWeeks: (w) => `kann zählen für die Woche ab ${w}`,
   room: (l) => `${l} konnten ausgleichen`,
   atRest: "durchgehend Ruhe",
+  byHand: "von Hand",
+  byHandHelp: "Von Hand: zum Teil oder ganz von Hand eingetragen.",
 
   // The chart, and the days in numbers
   chart: "Diagramm",

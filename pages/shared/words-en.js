@@ -89,6 +89,8 @@ export const WORDS = {
   inWeeks: (w) => `may count for the week from ${w}`,
   room: (l) => `${l} could make up`,
   atRest: "at rest throughout",
+  byHand: "by hand",
+  byHandHelp: "By hand: entered by hand, in part or whole.",
 
   // The chart, and the days in numbers
   chart: "Chart",
