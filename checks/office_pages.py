@@ -29,7 +29,7 @@ from lib.office_site import (
     ABSENT, BOTH_NIGHTS, CHANGED, COMBINED, DRIVERS, LATER, MARKUP, SOON, TURNED, UNKNOWN, WRONG, Site, card, holder_of, plainly,
     without,
 )
-from lib.office_tab import Office, month_page, squeezed, start_rows
+from lib.office_tab import Office, month_page, pick, rows_of_form, split, squeezed, start_rows
 from lib.server import OFFICE
 from lib.served import PAGES
 
@@ -363,28 +363,6 @@ def what_is_left(office: Office) -> Comparisons:
 def posts(office: Office, path: str) -> int:
     """How many commands with a path the program's service was sent."""
     return office.site.pages.asked.count(f"POST {path}")
-
-
-def pick(office: Office, row: int, activity: str) -> None:
-    """Chooses what happened in a row of the form."""
-    office.run(f"document.querySelectorAll('.gap')[{row}].querySelector('input[value={activity}]').click()")
-
-
-def split(office: Office, row: int, at: str, second: bool = False) -> str:
-    """Divides a row at a local time, and returns what the field says of the time."""
-    office.run(f"document.querySelectorAll('.gap')[{row}].querySelector('details').open = true")
-    office.set(f"#cut-{row}", at)
-    said = office.text(f"#cut-{row}-which")
-    if second:
-        office.run(f"document.querySelectorAll('#cut-{row}-which input')[1].click()")
-    office.run(f"[...document.querySelectorAll('.gap')[{row}].querySelectorAll('button')].find((one) => one.textContent === "
-        f"'Split').click()")
-    return said
-
-
-def rows_of_form(office: Office) -> list[str]:
-    """The hours of the form's rows."""
-    return office.texts(".gap b")
 
 
 def spring_gap(office: Office) -> Comparisons:

@@ -199,3 +199,27 @@ def month_page(office: Office, driver: int, month: str) -> Comparisons:
     ends = [line for line in wanted.stretches if line.startswith("NOT EXAMINED") and line[13:20] <= month <= line[30:37]]
     yield f"{name}: ranges that aren't examined", [one for one in ends if both(one[13:29]) not in office.text("#content")
         and one[13:20] == month], []
+
+
+# The form of a driver's gaps
+
+def pick(office: Office, row: int, activity: str) -> None:
+    """Chooses what happened in a row of the form."""
+    office.run(f"document.querySelectorAll('.gap')[{row}].querySelector('input[value={activity}]').click()")
+
+
+def split(office: Office, row: int, at: str, second: bool = False) -> str:
+    """Divides a row at a local time, and returns what the field says of the time."""
+    office.run(f"document.querySelectorAll('.gap')[{row}].querySelector('details').open = true")
+    office.set(f"#cut-{row}", at)
+    said = office.text(f"#cut-{row}-which")
+    if second:
+        office.run(f"document.querySelectorAll('#cut-{row}-which input')[1].click()")
+    office.run(f"[...document.querySelectorAll('.gap')[{row}].querySelectorAll('button')].find((one) => one.textContent === "
+        f"'Split').click()")
+    return said
+
+
+def rows_of_form(office: Office) -> list[str]:
+    """The hours of the form's rows."""
+    return office.texts(".gap b")
