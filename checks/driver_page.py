@@ -23,6 +23,7 @@ from lib import browser, counting, office_rows, proxy, rules
 from lib.browser import Browser, Page
 from lib.counting import Comparisons
 from lib.driver_month import AMOUNTS, BREACHES, FIRST_BREACHES, KINDS, MINUTES, OTHERS, ZONE, Month, Texts, instant, minutes_of
+from lib.driver_tab import IS_DONE, LOADED_SENTENCES, MESSAGE, SHOWN, choose, month_comparisons, plain, show, sign_in, speak
 from lib.files import read, write
 from lib.office_rows import DRIVER_HEAD, HOLDER
 from lib.programs import told_by
@@ -50,50 +51,6 @@ NAMES = [NAME, "Anna\u2028Berg\u2029</h1>", "\u202eAnna\u202d \u2066Berg", "\u03
 
 
 # What stands on the page
-
-SHOWN = """(() => {
-    const of = (root, selector) => [...root.querySelectorAll(selector)];
-    const number = (one, name) => Number(one.getAttribute(name));
-    const texts = (selector, root = document) => of(root, selector).map((one) => one.textContent);
-    const ranges = (root, selector) => of(root, selector).map((one) => [number(one, "x"), number(one, "width")]);
-    const breach = (one) => [...texts("h3, .amount, .sentence, .limits", one), one.querySelector("details > .note").textContent];
-    const table = document.querySelector("#days");
-    return {
-        heading: texts("#title, #month-head"),
-        left: texts("#left > p, #left .meter, #left > .box > p, #left > .box li"),
-        breaches: document.querySelector("#breaches li.breach") === null ? [texts("#breaches p")]
-            : of(document, "#breaches li.breach").map(breach),
-        more: texts("#breaches .more > summary"),
-        evidence: of(document, "#breaches li.breach").map((one) =>
-            of(one, "tbody tr, .evidence + .note").map((row) => row.matches("tr") ? texts("th, td", row) : [row.textContent])),
-        others: texts("#others summary, #others a"),
-        examined: texts("#not-examined > p, #not-examined li, #not-examined .box > p"),
-        debts: texts("#debts > p, #debts li"),
-        gaps: texts("#gaps > p, #gaps > ul li"),
-        days: of(document, "#chart .day").map((day) => ({
-            id: day.id,
-            bars: of(day, ".bars rect.bar").map((one) => [one.getAttribute("class"), number(one, "x"), number(one, "width")]),
-            unknown: ranges(day, ".bars rect.unknown"),
-            unseen: ranges(day, ".bars rect.unseen"),
-            marks: of(day, ".bars line.mark").map((one) => number(one, "x1")),
-            flags: of(day, ".flags > svg").map((one) => [Math.round(1e6 * parseFloat(one.getAttribute("x"))) / 1e6,
-                one.firstChild.getAttribute("d").includes("h-9") ? "left" : "right"]),
-            labels: texts(".labels span", day),
-            sum: day.querySelector(".sum").textContent,
-        })),
-        table: of(table, "tbody tr, tfoot tr").map((row) => texts("th, td", row)),
-    };
-})()"""
-
-
-def plain(value: Any) -> Any:
-    """A value of the page with usual blanks in its texts, in place of those at which no line ends; without signs that isolate a name."""
-    return json.loads(re.sub("[\u2068\u2069]", "", json.dumps(value, ensure_ascii=False).replace("\u00a0", " ")))
-
-
-# Whether the page shows a month, or says what is wrong, and no longer asks.
-IS_DONE = """document.querySelector("#message") !== null && !document.querySelector("#hours").hasAttribute("aria-busy")
-    && (!document.querySelector("#hours").hidden || document.querySelector("#message").textContent !== "")"""
 
 # For each text that is seen, its contrast with the background. The answer has the least contrast, and the texts below 4.5.
 CONTRASTS = """(() => {
@@ -429,41 +386,6 @@ def set_clock(page: Page, clock: str) -> str:
     return page.call("Page.addScriptToEvaluateOnNewDocument", source=CLOCK_SCRIPT % milliseconds)["identifier"]
 
 
-def sign_in(page: Page, key: str) -> None:
-    """Types a key, and presses Enter, once the page has its sentences."""
-    page.until("""!document.querySelector("#sign-in").hidden""")
-    page.run("""document.querySelector("#key").value = ""; document.querySelector("#key").focus();""")
-    page.type(key)
-    page.press("Enter")
-    page.until(IS_DONE)
-
-
-def show(page: Page, month: str) -> None:
-    """Shows another month."""
-    page.run(f"""(() => {{
-        document.querySelector("#hours").setAttribute("aria-busy", "true");
-        const field = document.querySelector("#month");
-        field.value = {json.dumps(month)};
-        field.form.requestSubmit();
-    }})()""")
-    page.until(IS_DONE)
-
-
-def choose(page: Page, language: str) -> None:
-    """Chooses a language."""
-    page.run(f"""(() => {{
-        const language = document.querySelector("#language");
-        language.value = "{language}";
-        language.dispatchEvent(new Event("change", {{ bubbles: true }}));
-    }})()""")
-
-
-def speak(page: Page, language: str) -> None:
-    """Chooses a language, and waits until the page has it."""
-    choose(page, language)
-    page.until(f"document.documentElement.lang === '{language}'")
-
-
 def click(page: Page, selector: str) -> None:
     """Clicks an element by its middle, as a mouse does."""
     x, y = page.run(f"""(() => {{
@@ -472,8 +394,7 @@ def click(page: Page, selector: str) -> None:
         const box = one.getBoundingClientRect();
         return [box.x + box.width / 2, box.y + box.height / 2];
     }})()""")
-    for kind in ("mousePressed", "mouseReleased"):
-        page.call("Input.dispatchMouseEvent", type=kind, x=x, y=y, button="left", clickCount=1)
+    page.press_at(x, y)
 
 
 def reload(page: Page, until: str) -> None:
@@ -483,9 +404,6 @@ def reload(page: Page, until: str) -> None:
     page.until(f"window.isOld === undefined && {until}")
 
 
-LOADED_SENTENCES = """performance.getEntriesByType("resource").map((one) => new URL(one.name).pathname)
-    .filter((path) => path.includes("/words-")).sort()"""
-MESSAGE = """(document.querySelector("#message p")?.textContent ?? "")"""
 KEPT = """[Object.entries(sessionStorage), Object.entries(localStorage), document.cookie]"""
 HAS_DATA = """!document.querySelector("#hours").hidden || document.querySelector("#hours").childNodes.length > 0
     || /2024|20\\d\\d-/.test(document.title)"""
@@ -505,32 +423,6 @@ def wrong_keys(page: Page) -> Comparisons:
         yield f"the key {key}", page.run(MESSAGE), OTHERS["en"]["bad key"]
         yield f"what is shown for {key}", (page.run(FORMS), page.run(HAS_DATA), page.run(KEPT)), (["sign-in"], False, [[], [], ""])
         yield f"how often {key} is sent", requests(page) - before, sent
-
-
-# The elements of names that might be read as markup.
-MARKUP = """document.querySelectorAll("#hours b:not(.meter b, #not-examined b), #hours script").length"""
-# The box of the driver's name, beyond which its signs change nothing.
-BOX = """(({ display, overflow }) => [display, overflow])(getComputedStyle(document.querySelector("#title bdi")))"""
-PARTS = ["heading", "left", "breaches", "more", "evidence", "others", "examined", "debts", "gaps", "table"]
-
-
-def month_comparisons(name: str, page: Page, month: Month, language: str) -> Comparisons:
-    """What stands on the page of a month, part by part."""
-    shown = plain(page.run(SHOWN))
-    wanted = {
-        "heading": month.heading(language), "left": month.left_texts(language), "breaches": month.breach_texts(language),
-        "more": month.more_text(language), "evidence": month.evidence_texts(language), "others": month.other_texts(language),
-        "examined": month.examined_texts(language), "debts": month.debt_texts(language), "gaps": month.gap_texts(language),
-        "table": month.table(language),
-    }
-    for part in PARTS:
-        yield f"{name}: {part}", shown[part], plain(wanted[part])
-    days = month.day_shapes(language)
-    yield f"{name}: days", [day["id"] for day in shown["days"]], [day["id"] for day in days]
-    for part in ("bars", "unknown", "unseen", "marks", "flags", "labels", "sum"):
-        yield f"{name}: {part}", [day[part] for day in shown["days"]], [day[part] for day in days]
-    yield f"{name}: markup from a text", page.run(MARKUP), 0
-    yield f"{name}: the box of the name", page.run(BOX), ["inline-block", "clip"]
 
 
 def months(site: Site, page: Page) -> Comparisons:

@@ -6,43 +6,35 @@ number. Then come faults: wrong keys, broken connections, other replies, a log-o
 
 Arguments: the program, and, if you like, a folder that gets pictures of the pages. Where Chromium isn't installed, only the files are
 looked at. The last line is 'N passed, M failed'."""
-import base64
-import contextlib
-import datetime
 import gzip
-import http.client
-import http.server
 import json
 import os
 import random
 import re
 import select
 import shutil
-import subprocess
 import sys
 import tempfile
-import threading
 import time
-import zoneinfo
-from collections.abc import Callable, Iterable, Sequence
-from typing import Any
 
-from inputs import hard_timelines, random_cards
-from inputs.random_cards import ACTIVITY, IDENTIFICATION, activity_data, block, record, word
-from lib import browser, counting, driver_month, rules, tars
-from lib.browser import Browser, Fault, Page
+from lib import browser, counting, driver_month, tars
+from lib.browser import Browser
 from lib.counting import Comparisons
+from lib.driver_month import DAY, length_in
+from lib.driver_month import minutes_of as minute_of
 from lib.files import TOP, read, write
-from lib.programs import told_by
-from lib.server import OFFICE, Serving, free_port
+from lib.office_month import (
+    MONTH, MONTH_BEFORE, SHORT, ZONES, Month, amount_of, both, hours, is_open, is_told, left_row, long,
+)
+from lib.office_site import (
+    ABSENT, BOTH_NIGHTS, CHANGED, COMBINED, DRIVERS, LATER, MARKUP, SEPARATED, SOON, TURNED, UNKNOWN, WRONG, Site, card, holder_of, plainly,
+    without,
+)
+from lib.office_tab import Office, month_page, pick, rows_of_form, split, squeezed, start_rows
+from lib.server import OFFICE
+from lib.served import PAGES
 
-PAGES = os.path.join(TOP, "pages")
-ZONE = zoneinfo.ZoneInfo("Europe/Berlin")
-DAY, WEEK = 1440, 10_080
 WRONG_KEY = "nobody-has-this-key"
-MOST_CONNECTIONS = 1_000_000
-NOW = "2024-11-04 09:00"
-MONTH, MONTH_BEFORE = "2024-11", "2024-10"
 
 # The most that a page and its modules may have: bytes, bytes with gzip, requests.
 BUDGET = 160 * 1024, 45 * 1024, 12
@@ -55,561 +47,6 @@ FORBIDDEN = [
     r"\sstyle=|<style|\.style\b|\"style\"", r"<script(?![^>]* src=)", r"https?://\w(?!ww\.w3\.org/2000/svg\")",
     r"@import\s+[\"'u]|url\(", r"document\.cookie",
 ]
-
-
-# A proxy that fails
-
-class Pages:
-    """A proxy between the browser and the program, from which the pages come. It can be told to fail."""
-
-    def __init__(self, port: int) -> None:
-        self.behind = port
-        self.port = free_port()
-        # What happens to the next requests whose method and path begin with a text: a way to fail, and how often.
-        self.faults: list[list[Any]] = []
-        self.asked: list[str] = []  # what was asked for, but page files
-        pages = self
-
-        class Handler(http.server.BaseHTTPRequestHandler):
-            """One request of a browser."""
-            protocol_version = "HTTP/1.1"
-
-            def log_message(self, *_: object) -> None:
-                """Says nothing."""
-
-            def answer(self) -> None:
-                """Answers a request."""
-                pages.answer(self)
-
-            do_GET = do_POST = answer
-
-        self.server = http.server.ThreadingHTTPServer(("127.0.0.1", self.port), Handler)
-        self.server.daemon_threads = True
-        threading.Thread(target=self.server.serve_forever, daemon=True).start()
-
-    def __enter__(self) -> "Pages":
-        return self
-
-    def __exit__(self, *_: object) -> None:
-        self.server.shutdown()
-        self.server.server_close()
-
-    def fail(self, begin: str, way: Any, count: int = 1) -> None:
-        """Lets the next requests fail: `before` and `after` break the connection before or after the program got it; a status, a
-        type and a body are a reply of another server; a function changes the bytes of the program's reply; `never` gives none."""
-        self.faults.append([begin, way, count])
-
-    def fault_of(self, request: str) -> Any:
-        """How a request is to fail, or None."""
-        for fault in self.faults:
-            if request.startswith(fault[0]) and fault[2] > 0:
-                fault[2] -= 1
-                return fault[1]
-        return None
-
-    def answer(self, handler: http.server.BaseHTTPRequestHandler) -> None:
-        """Answers a request with the program's reply, unless it is to fail."""
-        body = handler.rfile.read(int(handler.headers.get("content-length") or 0))
-        request = f"{handler.command} {handler.path}"
-        handler.close_connection = True
-        if not handler.path.startswith(("/office/", "/shared/")):
-            self.asked.append(request)
-        way = self.fault_of(request)
-        if way == "before":
-            return
-        if way == "never":
-            select.select([handler.connection], [], [], browser.SECONDS)  # until the browser closes it
-            return
-        if isinstance(way, tuple):
-            self.reply(handler, way[0], {"content-type": way[1]}, way[2])
-            return
-        connection = http.client.HTTPConnection("127.0.0.1", self.behind, timeout=60)
-        with contextlib.closing(connection):
-            fields = {name: value for name, value in handler.headers.items() if name.lower() in ("x-key", "content-length")}
-            connection.request(handler.command, handler.path, body or None, fields)
-            told = connection.getresponse()
-            text = told.read()
-        if way != "after":
-            self.reply(handler, told.status, dict(told.getheaders()), way(text) if callable(way) else text)
-
-    def reply(self, handler: http.server.BaseHTTPRequestHandler, status: int, fields: dict[str, str], text: bytes) -> None:
-        """Sends a reply."""
-        handler.send_response_only(status)
-        for name, value in {**fields, "content-length": str(len(text)), "connection": "close"}.items():
-            handler.send_header(name, value)
-        handler.end_headers()
-        with contextlib.suppress(OSError):
-            handler.wfile.write(text)
-
-
-# Cards
-
-def minute_of(text: str) -> int:
-    """The minute of a text `YYYY-MM-DD HH:MM`, counted from the beginning of 1970."""
-    return int(instant(text).timestamp()) // 60
-
-
-def instant(text: str) -> datetime.datetime:
-    """The moment of a text `YYYY-MM-DD` or `YYYY-MM-DD HH:MM`."""
-    return datetime.datetime.fromisoformat(text).replace(tzinfo=datetime.UTC)
-
-
-def text_of(minute: int) -> str:
-    """The text of a minute."""
-    return f"{datetime.datetime.fromtimestamp(minute * 60, datetime.UTC):%Y-%m-%d %H:%M}"
-
-
-KINDS = ["rest", "available", "work", "drive"]
-Span = tuple[int, int, str]  # a start, a past, and an activity, or `crew`, which is driving with a second driver
-
-
-def identification(holder: str, name: str) -> bytes:
-    """The identification of a card: its holder, and the driver's name."""
-    first, last = name.split(" ", 1)
-    texts = [bytes([1]) + part.encode("latin1").ljust(35) for part in (last, first)]
-    return bytes.fromhex(holder) + b"00" + bytes(36) + bytes(12) + texts[0] + texts[1] + bytes(6)
-
-
-def card(holder: str, name: str, spans: Sequence[Span]) -> bytes:
-    """A card file with spans. Between them the card is out, and what the driver did is unknown. The last word of the last day gives nothing
-    yet, so there is one more."""
-    first, last = spans[0][0] // DAY, (spans[-1][1] - 1) // DAY
-    records = []
-    for day in range(first, last + 1):
-        words, place = [], day * DAY
-        for start, past, activity in [one for one in spans if one[0] < (day + 1) * DAY and one[1] > day * DAY]:
-            if start > place:
-                words.append(word(1, 0, 0, place - day * DAY))
-            kind = (0, 1, 3) if activity == "crew" else (0, 0, KINDS.index(activity))
-            words.append(word(*kind, max(start, day * DAY) - day * DAY))
-            place = past
-        if place < (day + 1) * DAY:
-            words.append(word(1, 0, 0, place - day * DAY))
-        records.append(record(day, words or [word(1, 0, 0, 0)]))
-    if spans[-1][1] % DAY == 0:
-        records.append(record(last + 1, [word(1, 0, 0, 0)]))
-    return block(IDENTIFICATION, 0, identification(holder, name)) + block(ACTIVITY, 0, activity_data(records, 0, 0))
-
-
-def holder_of(number: int) -> str:
-    """The holder of a driver's card."""
-    return "0d" + f"D{number:013}".encode().hex()
-
-
-def timeline(seed: int) -> list[Span]:
-    """The spans of a driver at the limits of the rules, moved to 30 September 2024."""
-    spans, base, past = hard_timelines.timeline(seed, 5)
-    moved = minute_of("2024-09-30 00:00") - base
-    return [(start + moved, min(end, past) + moved, activity) for start, end, activity in rules.joined(spans, base, past)]
-
-
-def without(spans: Iterable[Span], start: str, past: str) -> list[Span]:
-    """Spans without the minutes of a range."""
-    first, last = minute_of(start), minute_of(past)
-    kept = [(one[0], min(one[1], first), one[2]) for one in spans if one[0] < first]
-    return kept + [(max(one[0], last), one[1], one[2]) for one in spans if one[1] > last]
-
-
-def plainly(start: str, past: str) -> list[Span]:
-    """Days of a driver who keeps all limits, with rest on Saturdays and Sundays."""
-    spans: list[Span] = []
-    for day in range(minute_of(f"{start} 00:00") // DAY, minute_of(f"{past} 00:00") // DAY):
-        at = day * DAY
-        if (day + 3) % 7 > 4:
-            spans.append((at, at + DAY, "rest"))
-        else:
-            spans += [(at, at + 360, "rest"), (at + 360, at + 380, "work"), (at + 380, at + 620, "drive"), (at + 620, at + 665, "rest"),
-                      (at + 665, at + 800, "drive"), (at + 800, at + 810, "available"), (at + 810, at + DAY, "rest")]
-    return spans
-
-
-MARKUP = "<img src=x onerror=alert(1)>"
-COMBINED = "e" + "\u0301" * 31
-SEPARATED = "Ann\u2028Berg\u0085 \u2029"
-TURNED = "\u2069\u202eBert Falk\u2066"
-BOTH_NIGHTS = 17
-CHANGED, WRONG, ABSENT, LATE, SOON, GONE, UNKNOWN = 11, 12, 14, 15, 18, 21, 30
-
-# Each driver: number, name, base, and the spans of each card file.
-DRIVERS: list[tuple[int, str, str, list[list[Span]]]] = [
-    (CHANGED, MARKUP, "2024-09-30", [timeline(42)]),
-    (WRONG, SEPARATED, "2024-09-30", [without(timeline(47), "2024-10-16 07:13", "2024-10-18 22:41")]),
-    (13, COMBINED, "2024-09-30", [timeline(12)]),
-    (ABSENT, TURNED, "2024-09-30", []),
-    (LATE, "Paul Richter", "2024-08-26", [plainly("2024-08-26", "2024-10-03")]),
-    (SOON, "Karin Schöne", "2024-09-02", [plainly("2024-09-02", "2024-10-10")]),
-    (BOTH_NIGHTS, "Eva Lund", "2024-03-25", [without(plainly("2024-03-25", "2024-11-04"), "2024-03-30 20:00", "2024-03-31 09:00")]),
-    (GONE, "Ilie Popescu", "2024-05-06", [plainly("2024-05-06", "2024-06-08")]),
-    (22, "Sofia Rossi", "2024-10-07", [[*plainly("2024-10-07", "2024-10-30"),
-        (minute_of("2024-10-30 00:00"), minute_of("2024-10-30 05:00"), "crew"),
-                                        *plainly("2024-10-31", "2024-11-04")]]),
-]
-# A driver who isn't in the CSV file.
-LATER = (UNKNOWN, "Jörg Müller", [plainly("2024-10-21", "2024-11-04")])
-
-
-# The program
-
-class Site:
-    """An empty archive, the program as its service, and the pages before it."""
-
-    def __init__(self, program: str, folder: str) -> None:
-        self.folder = folder
-        self.path = os.path.join(folder, "archive.db")
-        told_by([program, "init", self.path])
-        self.serving = Serving(program, self.path, OFFICE, MOST_CONNECTIONS, listens=True)
-        with self.serving.connection():
-            pass
-        self.pages = Pages(self.serving.port)
-        self.address = f"http://127.0.0.1:{self.pages.port}/office/"
-
-    def __enter__(self) -> "Site":
-        return self
-
-    def __exit__(self, *_: object) -> None:
-        self.pages.__exit__()
-        self.serving.__exit__()
-
-    def ask(self, path: str, key: str = OFFICE, body: bytes | None = None) -> tuple[int, bytes]:
-        """The status and body of the program's own reply; with a body, to a command."""
-        connection = http.client.HTTPConnection("127.0.0.1", self.serving.port, timeout=60)
-        with contextlib.closing(connection):
-            connection.request("GET" if body is None else "POST", path, body, {"x-key": key})
-            reply = connection.getresponse()
-            return reply.status, reply.read()
-
-    def text(self, path: str) -> str:
-        """The text of a reading."""
-        status, body = self.ask(path)
-        assert status == 200, (path, status, body)
-        return body.decode()
-
-    def rows(self, path: str) -> list[dict[str, str]]:
-        """The rows of a reading in CSV."""
-        head, *rows = self.text(path).split("\n")[:-1]
-        return [dict(zip(head.split(","), row.split(","), strict=True)) for row in rows]
-
-
-# What is expected
-
-MONTHS = "Jan Feb Mar Apr May Jun Jul Aug Sep Oct Nov Dec".split()
-WEEKDAYS = ["Mon", "Tue", "Wed", "Thu", "Fri", "Sat", "Sun"]
-
-
-def day_text(when: datetime.date, with_year: bool = False) -> str:
-    """A day as it is said."""
-    return f"{WEEKDAYS[when.weekday()]} {when.day} {MONTHS[when.month - 1]}{f' {when.year}' if with_year else ''}"
-
-
-def local(text: str, with_year: bool = False) -> str:
-    """A moment in local time."""
-    when = instant(text).astimezone(ZONE)
-    return f"{day_text(when, with_year)} {when:%H:%M}"
-
-
-def both(text: str) -> str:
-    """A moment in local time, with UTC in brackets."""
-    utc = instant(text)
-    day = "" if utc.astimezone(ZONE).date() == utc.date() else f"{day_text(utc)} "
-    return f"{local(text)} ({day}{utc:%H:%M} UTC)"
-
-
-def long(minutes: int) -> str:
-    """A length in words."""
-    hours, rest = divmod(minutes, 60)
-    return f"{rest} min" if hours == 0 else f"{hours} h {rest:02}" if rest else f"{hours} h"
-
-
-def hours(minutes: int) -> str:
-    """A length as hours and minutes."""
-    return f"{minutes // 60}:{minutes % 60:02}"
-
-
-def counted(number: int, one: str, more: str) -> str:
-    """A number of things."""
-    return f"{number} {one if number == 1 else more}"
-
-
-def ago(text: str) -> int:
-    """How many local days ago the last known minute was."""
-    last = datetime.datetime.fromtimestamp(minute_of(text) * 60 - 60, ZONE).date()
-    return (instant(NOW).astimezone(ZONE).date() - last).days
-
-
-def task_of(row: dict[str, str]) -> tuple[int, float, str]:
-    """The rank of a driver's first task, its place within the rank, and its text."""
-    held, by = row["held"], row["by"]
-    age = ago(held) if held else None
-    if not held:
-        return 0, 0, "Import the first card file" if row["files"] == "0" else "Import a newer card file"
-    assert age is not None
-    if age > 28:
-        return 1, -age, f"Card file {counted(age - 28, 'day', 'days')} overdue"
-    if age > 21:
-        return 2, -age, f"Card file due in {counted(28 - age, 'day', 'days')}"
-    if by and minute_of(by) - minute_of(NOW) < 10 * DAY:
-        return 3, minute_of(by), f"Rest to be made up before {local(by)}"
-    if row["unknown"] != "0":
-        return 4, -int(row["unknown"]), f"Fill in {long(int(row['unknown']))} unknown"
-    if row["breaches"] != "0":
-        return 5, -int(row["breaches"]), f"Look at {counted(int(row['breaches']), 'breach', 'breaches')}"
-    if row["last_month"] != "0":
-        return 6, -int(row["last_month"]), f"Look at {counted(int(row['last_month']), 'breach', 'breaches')} in October 2024"
-    return 7, 0, "Nothing to do"
-
-
-def start_row(row: dict[str, str], left: dict[str, str]) -> list[str]:
-    """What the start page shows of a driver."""
-    days = ago(row["held"]) if row["held"] else 0
-    held = f"{local(row['held'])} {['today', 'yesterday'][days] if days < 2 else f'{days} days ago'}" if row["held"] else "–"
-    gaps = f"{long(int(row['unknown']))} {counted(int(row['gaps']), 'gap', 'gaps')}" if row["unknown"] != "0" else "–"
-    debts = f"{long(int(row['owes']))} before {local(row['by'])}" if row["debts"] != "0" else "–"
-    return [f"{row['name']} {row['driver']}", task_of(row)[2], held, gaps,
-        *(row[name] if row[name] != "0" else "–" for name in ("last_month", "breaches")),
-            debts, driving_left(left)]
-
-
-def monday(text: str) -> int:
-    """The first minute of a week."""
-    return minute_of(text) - (minute_of(text) - minute_of("2024-01-01 00:00")) % WEEK
-
-
-def is_young(row: dict[str, str]) -> bool:
-    """Whether the week before isn't known."""
-    return minute_of(f"{row['from']} 00:00") > monday(row["start"]) - WEEK
-
-
-def is_told(row: dict[str, str]) -> bool:
-    """Whether a forecast says anything."""
-    return bool(row["held"] and row["start"]) and (minute_of(row["start"]) - minute_of(row["held"])) // DAY <= 4
-
-
-def left_by(row: dict[str, str], *names: str) -> int | None:
-    """The least that is left until some limits."""
-    found = [minute_of(row[name]) - minute_of(row["start"]) for name in names if row[name]]
-    return min(found, default=None)
-
-
-def driving_left(row: dict[str, str]) -> str:
-    """The driving that is left on the start page."""
-    if not (row["held"] and row["start"]) or minute_of(row["start"]) - minute_of(row["held"]) > 4 * DAY:
-        return "–"
-    least = left_by(row, "B4", "B5", "B6", *([] if is_young(row) else ["B7"]))
-    return f"{long(least or 0)}{' two weeks: ?' if is_young(row) else ''}"
-
-
-def left_row(row: dict[str, str]) -> list[str]:
-    """What the page of what is left shows of a driver."""
-    def shown(minutes: int | None) -> str:
-        return "–" if minutes is None else long(minutes)
-    bounds = [("", left_by(row, "B4", "B5")), ("week", left_by(row, "B6")), ("two weeks", None if is_young(row) else left_by(row, "B7"))]
-    name, least = min(((name, value) for name, value in bounds if value is not None), key=lambda one: one[1])
-    remark = ", ".join(one for one in (name, "two weeks: ?" if is_young(row) else "") if one)
-    days = (minute_of(row["start"]) - minute_of(row["held"])) // DAY
-    needs_long = row["B3"] and (not row["B2"] or row["B3"] <= row["B2"])
-    rest = f"{local(row['B3'])} 11 h" if needs_long else local(row["B2"]) if row["B2"] else "–"
-    weekly = min((row[name] for name in ("B8", "B9") if row[name]), default="")
-    return [f"{row['name']} {row['driver']}", local(row["held"]) + (f" Known only to {days} days before the start: don't rely on it"
-        if days > 2 else ""),
-            f"{long(least)}{f' {remark}' if remark else ''}", shown(left_by(row, "B1")), rest, shown(left_by(row, "B6")),
-            f"? known from {day_text(instant(row['from']))}" if is_young(row) else shown(left_by(row,
-                "B7")), local(weekly) if weekly else "–",
-            f"{row['reduced']}/3 · {row['extended']}/2"]
-
-
-AMOUNTS = {"B2": "{} late", "B8": "{} late", "B10": "{} lacking"}
-
-
-def amount_of(kind: str, amount: int) -> str:
-    """The amount of a breach in a few words."""
-    return "" if kind == "B9" else f"+{amount}" if kind == "B3" else AMOUNTS.get(kind, "{} over").format(long(amount))
-
-
-SHORT = {"B1": "Break", "B2": "Daily rest", "B3": "Reduced daily rests", "B4": "Daily driving", "B5": "Extended days",
-    "B6": "Weekly driving",
-         "B7": "Driving in two weeks", "B8": "Weekly rest", "B9": "Weekly rests of two weeks", "B10": "Rest not made up"}
-BREACH = re.compile(r"(B\d+) Art (\S+) at (.{16}) since (.{16}) amount (\d+)")
-
-
-def is_open(kind: str, evidence: Sequence[str]) -> bool:
-    """Whether what shows a breach ends in time that isn't known."""
-    ends = [line for line in evidence if line.split(" ")[2] in ("break", "rest", "weekly")]
-    return kind in ("B1", "B2", "B8") and re.match(r"  \w+ (?:-|.{16}) -", ends[-1]) is not None
-
-
-class Month:
-    """A driver's month by the program's texts."""
-
-    def __init__(self, site: Site, driver: int, month: str) -> None:
-        at = f"/drivers/{driver}"
-        self.driver, self.month = driver, month
-        self.sheet = site.text(f"{at}/sheet/{month}").split("\n")
-        self.why: list[tuple[re.Match[str], list[str]]] = []
-        for line in site.text(f"{at}/why/{month}").split("\n")[:-1]:
-            if line.startswith("  "):
-                self.why[-1][1].append(line)
-            else:
-                self.why.append((BREACH.fullmatch(line), []))
-        self.stretches = site.text(f"{at}/stretches").split("\n")[:-1]
-        self.gaps = [(line[:16], line[17:]) for line in site.text(f"{at}/gaps/{month}").split("\n")[:-1]]
-        self.debts = site.text(f"{at}/debts").split("\n")[:-1]
-        self.files = site.text(f"{at}/files").count("\n")
-
-    def end(self) -> str:
-        """The end of what is held, or an empty text."""
-        last = self.stretches[-1]
-        if last.startswith("NOT EXAMINED"):
-            return last[-16:]
-        start = next(line for line in reversed(self.stretches) if line.startswith("FROM "))
-        return "" if last[12:28] == f"{start[5:]} 00:00" else last[12:28]
-
-    def breaches(self) -> list[list[str]]:
-        """The head and the limit of each breach."""
-        return [[f"{SHORT[found[1]]}{amount_of(found[1], int(found[5]))}", both(found[3])] for found, _ in self.why]
-
-    def days(self) -> list[list[str]]:
-        """The table of days."""
-        last = max(instant(NOW).replace(tzinfo=None).isoformat(" ")[:16], self.end())
-        rows = [line for line in self.sheet if re.match(r"\d{4}-", line)]
-        shown = [[day_text(instant(line[:10]), True), *(part.replace("–", "") for part in line[14:].split())] for line in rows
-            if f"{line[:10]} 00:00" < last]
-        return [[one if one != "0:00" else "–" for one in row] for row in shown]
-
-    def later(self) -> list[list[str]]:
-        """The row of the days that haven't come."""
-        days = [line[:10] for line in self.sheet if re.match(r"\d{4}-", line)][len(self.days()):]
-        if not days:
-            return []
-        first, last = day_text(instant(days[0])), day_text(instant(days[-1]), True)
-        return [[f"{first} to {last}: not yet", *["–"] * 5, f"{24 * len(days)}:00"]]
-
-    def total(self) -> list[str]:
-        """The sums of the month."""
-        return next(line for line in self.sheet if line.startswith("TOTAL")).split()[1:]
-
-    def open_gaps(self) -> list[str]:
-        """The gaps up to the end of what is held."""
-        cut = [(start, min(past, self.end())) for start, past in self.gaps if start < self.end()]
-        return [f"{both(start)} to {both(past)} · {long(minute_of(past) - minute_of(start))}" for start, past in cut]
-
-
-# In the browser
-
-CLOCK = """(() => {
-    const Real = Date, moved = Date.UTC(%s) - Date.now();
-    class Moved extends Real {
-        constructor(...given) { if (given.length) super(...given); else super(Moved.now()); }
-        static now() { return Real.now() + moved + (globalThis.later ?? 0); }
-    }
-    globalThis.Date = Moved;
-    const wait = setTimeout;
-    globalThis.setTimeout = (act, milliseconds) => wait(act, milliseconds / (globalThis.hurry ?? 1));
-})()"""
-
-
-def plain(value: Any) -> Any:
-    """A value of the page with usual blanks in place of those at which no line ends."""
-    return json.loads(json.dumps(value, ensure_ascii=False).replace("\u00a0", " "))
-
-
-class Office:
-    """A tab of the browser with the office's pages, at a moment that is set."""
-
-    def __init__(self, site: Site, driven: Browser) -> None:
-        self.site = site
-        self.page = driven.page()
-        fields = instant(NOW).timetuple()
-        self.page.call("Page.addScriptToEvaluateOnNewDocument",
-            source=CLOCK % f"{fields[0]}, {fields[1] - 1}, {fields[2]}, {fields[3]}, {fields[4]}")
-        driven.call("Browser.setDownloadBehavior", behavior="allow", downloadPath=site.folder)
-
-    def run(self, expression: str) -> Any:
-        """The value of an expression."""
-        return plain(self.page.run(expression))
-
-    def until(self, expression: str) -> bool:
-        """Waits until an expression is true."""
-        return self.page.until(expression)
-
-    def sign_in(self, key: str = OFFICE) -> None:
-        """Types a key, and presses Enter."""
-        self.until("document.querySelector('#key') !== null")
-        self.run("(document.querySelector('#key').value = '', document.querySelector('#key').focus())")
-        self.page.type(key)
-        self.page.press("Enter")
-
-    def go(self, to: str, shown: str = "#title") -> None:
-        """Opens a page by its address, and waits until it is shown."""
-        self.mark()
-        self.run(f"location.hash = {json.dumps(to)}")
-        self.shown(shown)
-
-    def mark(self) -> None:
-        """Marks what is shown, so that one can wait for what comes next."""
-        self.run("document.querySelector('#content').firstElementChild?.classList.add('old')")
-
-    def shown(self, selector: str = "#title") -> bool:
-        """Waits until another content is shown that has a selector."""
-        return self.until(f"document.querySelector('#content > .old') === null && document.querySelector({json.dumps(selector)}) !== null")
-
-    def texts(self, selector: str) -> list[str]:
-        """The texts of elements."""
-        return self.run(f"[...document.querySelectorAll({json.dumps(selector)})].map((one) => one.textContent)")
-
-    def text(self, selector: str) -> str:
-        """The text of an element."""
-        return self.run(f"document.querySelector({json.dumps(selector)})?.textContent ?? ''")
-
-    def table(self, selector: str) -> list[list[str]]:
-        """The cells of a table's rows, each with its spaces as they are seen."""
-        return self.run(f"[...document.querySelectorAll({json.dumps(selector + ' tbody tr')})].map((row) => [...row.children].map((one) "
-            f"=> one.textContent))")
-
-    def click(self, selector: str) -> None:
-        """Clicks an element by its middle, as a mouse does."""
-        x, y = self.run(f"""(() => {{
-            const one = document.querySelector({json.dumps(selector)});
-            one.scrollIntoView({{ block: "center" }});
-            const box = one.getBoundingClientRect();
-            return [box.x + box.width / 2, box.y + box.height / 2];
-        }})()""")
-        for kind in ("mousePressed", "mouseReleased"):
-            self.page.call("Input.dispatchMouseEvent", type=kind, x=x, y=y, button="left", clickCount=1)
-
-    def press_button(self, text: str, within: str = "document") -> None:
-        """Clicks the button or link with a text."""
-        self.run(f"[...{within}.querySelectorAll('button, a')].find((one) => one.textContent === {json.dumps(text)}).click()")
-
-    def confirm(self) -> None:
-        """Chooses the action of a dialog, and waits for what comes of it."""
-        self.until("document.querySelector('dialog[open]') !== null")
-        self.run("document.querySelector('dialog .main').click()")
-
-    def set(self, selector: str, value: str) -> None:
-        """Writes a value into a field."""
-        self.run(f"""(() => {{
-            const field = document.querySelector({json.dumps(selector)});
-            field.value = {json.dumps(value)};
-            field.dispatchEvent(new Event("input", {{ bubbles: true }}));
-            field.dispatchEvent(new Event("change", {{ bubbles: true }}));
-        }})()""")
-
-    def speak(self, language: str) -> None:
-        """Chooses a language."""
-        self.mark()
-        self.set("#language", language)
-        self.shown()
-
-    def printed(self, name: str) -> str:
-        """The text of the page as it is printed."""
-        path = os.path.join(self.site.folder, f"{name}.pdf")
-        write(path, base64.b64decode(self.page.call("Page.printToPDF", printBackground=True, preferCSSPageSize=True)["data"]))
-        return subprocess.run(["pdftotext", "-layout", path, "-"], capture_output=True,
-            check=True).stdout.decode() if shutil.which("pdftotext") else ""
-
-    def notice(self) -> str:
-        """What the page says became of something."""
-        return self.text("#content > .box")
 
 
 # Comparisons: the files
@@ -755,7 +192,7 @@ def card_files(site: Site) -> list[tuple[str, bytes, str]]:
         ("again.ddd", first[1], f"nothing new for {MARKUP}. Keep the file: the archive doesn't."),
         ("broken.ddd", card(holder_of(13), "Some Body", good)[:-3], "no file of a driver card, or damaged. Nothing was taken. C"),
         ("large.ddd", bytes(262_145), "too large (at most 262,144 bytes). It wasn't sent."),
-        ("later.ddd", card(holder_of(UNKNOWN), LATER[1], LATER[2][0]),
+        ("later.ddd", card(holder_of(UNKNOWN), LATER[1], LATER[3][0]),
          f"the card of a driver who isn't registered ({LATER[1]}, D D{UNKNOWN:013}..). Nothing was taken. S4 unknown driver"
          "Register this driver"),
         ("other.ddd", card(holder_of(13), "Some Body", [(start, past, "work") for start, past, _ in good]),
@@ -867,38 +304,9 @@ def broken_uploads(office: Office) -> Comparisons:
 
 # Comparisons: what the pages show
 
-def squeezed(rows: Sequence[Sequence[str]]) -> list[list[str]]:
-    """Cells with single blanks."""
-    return [[re.sub(r"[^\S\u2028\u2029]+", " ", cell).strip(" ") for cell in row] for row in rows]
-
-
 def start_page(office: Office) -> Comparisons:
-    """The start page against `standing` and `forecast`, and its sums."""
-    office.go("/", "table.cards")
-    office.until("[...document.querySelectorAll('.left-cell .v')].every((one) => one.textContent !== '…')")
-    rows = office.site.rows(f"/standing/{MONTH}")
-    left = {row["driver"]: row for row in office.site.rows("/forecast/2024-11-05/05:00")}
-    gone = [row for row in rows if row["held"] and ago(row["held"]) > 56]
-    there = sorted((row for row in rows if row not in gone), key=lambda row: (*task_of(row)[:2], int(row["driver"])))
-    yield "who may have left", [row["driver"] for row in gone], [str(GONE)]
-    yield "the folded list", office.texts("details.gone li"), [f"{row['name']} ({row['driver']}) · Known to {local(row['held'], True)}"
-        for row in gone]
-    yield "the rows of the start page", squeezed(office.table("#content table")), squeezed([start_row(row, left[row["driver"]])
-        for row in there])
-    ranks = {task_of(row)[0] for row in there}
-    yield "tasks that were seen", {0, 1, 2, 4, 5, 7} - ranks, set()
-    sums = {"drivers": there, "card files due": [row for row in there if not row["held"] or ago(row["held"]) > 21],
-            "with unknown hours": [row for row in there if row["unknown"] != "0"], "with breaches in October": [row for row in there
-                if row["last_month"] != "0"],
-            "with breaches in November": [row for row in there if row["breaches"] != "0"], "with rest to make up": [row for row in there
-                if row["debts"] != "0"],
-            "with nothing to do": [row for row in there if task_of(row)[0] == 7]}
-    yield "the sums", office.texts(".sums button"), [f"{len(of)}{name}" for name, of in sums.items()]
-    for place, (name, of) in enumerate(sums.items(), 1):
-        office.click(f".sums li:nth-child({place}) button")
-        yield f"the rows {name}", [row[0] for row in office.table("#content table")], [f"{row['name']} {row['driver']}" for row in of]
-        if place > 1:
-            office.click(f".sums li:nth-child({place}) button")
+    """The start page, also where the reading of what is left fails."""
+    yield from start_rows(office)
     office.site.pages.fail("GET /forecast", "before")
     office.mark()
     office.press_button("Refresh")
@@ -907,55 +315,13 @@ def start_page(office: Office) -> Comparisons:
         office.until("[...document.querySelectorAll('.left-cell')].every((one) => one.textContent === '?')"), True)
 
 
-FACTS = {"Driving": 3, "Other work": 2, "Available": 1, "Rest": 0, "Second driver": 4}
-
-
-def month_page(office: Office, driver: int, month: str) -> Comparisons:
-    """A driver's month against the sheet, the evidence, the stretches, the debts and the gaps."""
-    office.go(f"/drivers/{driver}/{month}", ".chart")
-    wanted, name = Month(office.site, driver, month), f"driver {driver} {month}"
-    total = wanted.total()
-    yield (f"{name}: heading", office.text("#title"),
-        f"{wanted.sheet[0].split(' ', 2)[2]} ({driver}), {'October' if month == MONTH_BEFORE else 'November'} 2024")
-    yield f"{name}: sums", office.texts(".facts div"), [f"{label}{total[k]}" for label, k in FACTS.items() if k == 3 or total[k] != "0:00"]
-    shown = office.run("""[...document.querySelectorAll('.breach')].map((one) =>
-        [one.querySelector('.top').textContent, one.querySelector('.limits').textContent.replace(/^limit reached: /, '')])""")
-    yield f"{name}: breaches", shown, wanted.breaches()
-    yield f"{name}: lines of evidence", office.run("[...document.querySelectorAll('.breach')].map((one) => one.querySelectorAll('tbody "
-        "tr').length)"), [
-        len(evidence) if found[1] != "B9" else office.run(f"document.querySelectorAll('.breach')[{k}].querySelectorAll('tbody tr').length")
-        for k, (found, evidence) in enumerate(wanted.why)]
-    table = office.table(".tight")
-    days = wanted.days()
-    yield f"{name}: days", table[:len(days)], days
-    yield f"{name}: the days that haven't come", table[len(days):], wanted.later()
-    yield f"{name}: sums of the table", office.texts(".tight tfoot td"), [one if one != "0:00" else "–" for one in total]
-    yield f"{name}: gaps", office.texts("#gaps li"), wanted.open_gaps()
-    shown = office.texts("#debts > ul > li")
-    last = next((k for k, line in reversed(list(enumerate(wanted.debts))) if line.startswith("FROM ")), 0)
-    owed = [line for line in wanted.debts[last:] if line.startswith("WEEK ") and " paid " not in line]
-    told = [one.split(" for the week")[0] for one in shown[:len(owed)]]
-    yield f"{name}: debts", told, [long(int(line.split(" ")[3])) for line in owed]
-    bars = office.run("[...document.querySelectorAll('.day .bar')].reduce((sum, one) => sum + Number(one.getAttribute('width')), 0)")
-    yield f"{name}: minutes of the bars", bars, sum(minutes_of(one) for one in total[:5])
-    ends = [line for line in wanted.stretches if line.startswith("NOT EXAMINED") and line[13:20] <= month <= line[30:37]]
-    yield f"{name}: ranges that aren't examined", [one for one in ends if both(one[13:29]) not in office.text("#content")
-        and one[13:20] == month], []
-
-
-def minutes_of(text: str) -> int:
-    """The minutes of a length."""
-    hour, minute = text.split(":")
-    return 60 * int(hour) + int(minute)
-
-
 def months(office: Office) -> Comparisons:
     """The months of all drivers."""
     kinds: set[str] = set()
     for driver, _, _, _ in sorted(DRIVERS):
         for month in (MONTH_BEFORE, MONTH):
             yield from month_page(office, driver, month)
-            kinds |= {found[1] for found, _ in Month(office.site, driver, month).why}
+            kinds |= {found[1] for found, _ in Month(office.site.text, driver, month).why}
     yield "kinds of breaches that were shown", sorted(kinds), sorted(SHORT)
     # The archive changes while a page is read: it is read again.
     before = len(office.site.pages.asked)
@@ -1017,7 +383,7 @@ def what_is_left(office: Office) -> Comparisons:
         office.go(f"/drivers/{driver}/left", ".meters, .box")
         told = dict(re.findall(r"^(B\d) Art \S+ until .{16} left (\d+:\d\d)$",
             office.site.text(f"/drivers/{driver}/ahead/2024-11-05/05:00"), re.M))
-        yield f"the first break of {driver}", office.text(".meters li:first-child b"), long(minutes_of(told["B1"]))
+        yield f"the first break of {driver}", office.text(".meters li:first-child b"), long(length_in(told["B1"]))
         used = re.findall(r"^(?:REDUCED|EXTENDED) (\d+)$", office.site.text(f"/drivers/{driver}/ahead/2024-11-05/05:00"), re.M)
         yield (f"what is used of {driver}",
             f"Reduced daily rests: {used[0]} of 3 · days over 9 h: {used[1]} of 2" in office.text("#content"), True)
@@ -1046,28 +412,6 @@ def what_is_left(office: Office) -> Comparisons:
 def posts(office: Office, path: str) -> int:
     """How many commands with a path the program's service was sent."""
     return office.site.pages.asked.count(f"POST {path}")
-
-
-def pick(office: Office, row: int, activity: str) -> None:
-    """Chooses what happened in a row of the form."""
-    office.run(f"document.querySelectorAll('.gap')[{row}].querySelector('input[value={activity}]').click()")
-
-
-def split(office: Office, row: int, at: str, second: bool = False) -> str:
-    """Divides a row at a local time, and returns what the field says of the time."""
-    office.run(f"document.querySelectorAll('.gap')[{row}].querySelector('details').open = true")
-    office.set(f"#cut-{row}", at)
-    said = office.text(f"#cut-{row}-which")
-    if second:
-        office.run(f"document.querySelectorAll('#cut-{row}-which input')[1].click()")
-    office.run(f"[...document.querySelectorAll('.gap')[{row}].querySelectorAll('button')].find((one) => one.textContent === "
-        f"'Split').click()")
-    return said
-
-
-def rows_of_form(office: Office) -> list[str]:
-    """The hours of the form's rows."""
-    return office.texts(".gap b")
 
 
 def spring_gap(office: Office) -> Comparisons:
@@ -1217,7 +561,7 @@ def withdrawals(office: Office) -> Comparisons:
 def letters(office: Office) -> Comparisons:
     """Letters in both languages: every breach that is complete, with its numbers."""
     for driver in (CHANGED, WRONG, 13):
-        month = Month(office.site, driver, MONTH_BEFORE)
+        month = Month(office.site.text, driver, MONTH_BEFORE)
         ready = [(found, evidence) for found, evidence in month.why if not is_open(found[1], evidence)]
         for language, head, words in [("en", "Your driving and rest times in October 2024", "Regulation (EC) No 561/2006"),
                                       ("de", "Ihre Lenk- und Ruhezeiten im Oktober 2024", "Verordnung (EG) Nr. 561/2006")]:
@@ -1525,13 +869,13 @@ def by_hand(office: Office) -> Comparisons:
     given = [("2024-10-16 07:13", "2024-10-16 08:13", "drive"), ("2024-10-16 08:13", "2024-10-18 22:41", "rest"),
              (*runs[0], "drive"), (*runs[-1], "drive")]
     for row in given:
-        yield f"entered {row}", office.site.ask(f"{path}/entries", body=f"start,past,activity\n{','.join(row)}\n".encode())[0], 201
-    yield "one is withdrawn", office.site.ask(f"{path}/withdraw/4", body=b"")[0], 200
+        yield f"entered {row}", office.site.ask(f"{path}/entries", posted=f"start,past,activity\n{','.join(row)}\n".encode())[0], 201
+    yield "one is withdrawn", office.site.ask(f"{path}/withdraw/4", posted=b"")[0], 200
     entries = driver_month.kept_entries(office.site.text(f"{path}/entries"))
-    why = [(found[1], [line[2:] for line in evidence]) for found, evidence in Month(office.site, WRONG, MONTH_BEFORE).why]
+    why = [(found[1], [line[2:] for line in evidence]) for found, evidence in Month(office.site.text, WRONG, MONTH_BEFORE).why]
     marks = [[driver_month.is_by_hand(line, entries) for line in evidence] for kind, evidence in why if kind != "B9"]
     yield "lines of both kinds", {mark for one in marks for mark in one}, {True, False}
-    ready = [driver_month.is_by_hand(line, entries) for found, evidence in Month(office.site, WRONG, MONTH_BEFORE).why
+    ready = [driver_month.is_by_hand(line, entries) for found, evidence in Month(office.site.text, WRONG, MONTH_BEFORE).why
              if found[1] != "B9" and not is_open(found[1], evidence) for line in [one[2:] for one in evidence]]
     seen = """[...document.querySelectorAll('.breach:not([id^=breach-B9])')].map((one) =>
         [[...one.querySelectorAll('tbody th')].map((head) => head.textContent.endsWith(%s)),
@@ -1599,7 +943,6 @@ def sessions(office: Office) -> Comparisons:
 
 ADDRESSES = ["/", "/files", "/left", f"/month/{MONTH_BEFORE}", "/people", "/inspection", f"/drivers/{CHANGED}/{MONTH_BEFORE}",
              f"/drivers/{CHANGED}/{MONTH_BEFORE}/letter", f"/drivers/{CHANGED}/left", f"/drivers/{WRONG}/gaps", f"/drivers/{SOON}/entries"]
-IMPORTS = re.compile(r"(?:import|from) \"(/[^\"]+|\./[^\"]+)\"")
 
 
 WIDTH = "document.documentElement.scrollWidth"
@@ -1672,8 +1015,9 @@ def comparisons(program: str, pictures: str | None = None) -> Comparisons:
     with tempfile.TemporaryDirectory(ignore_cleanup_errors=True) as folder, Site(os.path.abspath(program), folder) as site:
         kept = pictures or os.path.join(folder, "pictures")
         os.makedirs(kept, exist_ok=True)
-        with Browser(os.path.join(folder, "browser"), "en-GB,en", ZONE.key) as driven:
-            office = Office(site, driven)
+        with Browser(os.path.join(folder, "browser"), "en-GB,en", ZONES[-1].key) as driven:
+            office = Office(site, driven.page())
+            driven.call("Browser.setDownloadBehavior", behavior="allow", downloadPath=site.folder)
             for part in (
                 signing_in, languages, sentences, registering, importing, contradiction, broken_uploads, start_page, months, all_drivers,
                 what_is_left, spring_gap, autumn_gap, withdrawals, letters, inspection, changes, leaving, names, faults, silence, versions,

@@ -143,6 +143,10 @@ class Page:
             time.sleep(0.02)
         return False
 
+    def before_each(self, source: str) -> None:
+        """Runs a script in each document that the page loads from now on, before its own ones."""
+        self.call("Page.addScriptToEvaluateOnNewDocument", source=source)
+
     def open(self, address: str) -> None:
         """Loads an address, and waits until it is loaded."""
         self.call("Page.navigate", url=address)
@@ -158,6 +162,11 @@ class Page:
     def type(self, text: str) -> None:
         """Types a text where the focus is."""
         self.call("Input.insertText", text=text)
+
+    def press_at(self, x: float, y: float) -> None:
+        """Presses the mouse at a place of what is seen."""
+        for kind in ("mousePressed", "mouseReleased"):
+            self.call("Input.dispatchMouseEvent", type=kind, x=x, y=y, button="left", clickCount=1)
 
     def choose_files(self, selector: str, paths: Sequence[str]) -> None:
         """Chooses files in a file field."""
@@ -175,6 +184,10 @@ class Page:
         }})()""")
         for kind in ("dragEnter", "dragOver", "drop"):
             self.call("Input.dispatchDragEvent", type=kind, x=x, y=y, data={"items": [], "files": list(paths), "dragOperationsMask": 1})
+
+    def printed(self) -> bytes:
+        """The page as it is printed, as PDF."""
+        return base64.b64decode(self.call("Page.printToPDF", printBackground=True, preferCSSPageSize=True)["data"])
 
     def resize(self, width: int, height: int = 800) -> None:
         """Gives the page the size of a screen."""
