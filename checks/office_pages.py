@@ -975,7 +975,8 @@ def looks(office: Office, pictures: str) -> Comparisons:
 
 
 def budget(office: Office) -> Comparisons:
-    """How much each page loads, when it is the first one."""
+    """How much each page loads in English, when it is the first one. (A letter in another language loads that one too.)"""
+    office.run(f"localStorage.removeItem('tacho.letter.{CHANGED}')")
     for address in ADDRESSES:
         before = len(office.page.events("Network.requestWillBeSent"))
         office.page.open(f"{office.site.address}?")  # leaves the page, so that the next one is loaded anew
@@ -986,8 +987,7 @@ def budget(office: Office) -> Comparisons:
         office.shown("#title")
         urls = [one["request"]["url"] for one in office.page.events("Network.requestWillBeSent")[before:]]
         files = sorted({url.split("#")[0].split("/", 3)[3] for url in urls if re.search(r"/(office|shared)/", url)})
-        # German sentences are longer than English ones.
-        texts = [read(os.path.join(PAGES, f"{name}index.html" if name.endswith("/") else name.replace("-en.", "-de."))) for name in files]
+        texts = [read(os.path.join(PAGES, f"{name}index.html" if name.endswith("/") else name)) for name in files]
         sizes = sum(map(len, texts)), sum(len(gzip.compress(text, 9)) for text in texts), len(files)
         yield f"{address}: bytes, bytes with gzip, requests: {sizes}", [one <= most for one, most in zip(sizes, BUDGET)], [True] * 3
 
