@@ -1,6 +1,6 @@
 #!/usr/bin/env python3
-"""Opens the office's pages and the driver's page in headless Firefox, before a fresh service (`listen`) without a server between: wrong keys
-and right ones, the start page, months of the office and of drivers, two tabs at once, and many visits in a row. What the pages show is
+"""Opens the office's pages and the driver's page in headless Firefox, before a fresh service (`listen`) without a server between: wrong
+keys and right ones, the start page, months of the office and of drivers, two tabs at once, and many visits in a row. What the pages show is
 compared with the program's texts as in Chromium (office_pages.py, driver_page.py), at the same moment of the clock.
 
 Argument: the program. Where Firefox isn't installed, only the replies to what fills the archive are looked at. The last line is
@@ -63,8 +63,9 @@ def office_months(office: Office[Page]) -> Comparisons:
 
 
 def visits(office: Office[Page]) -> Comparisons:
-    """Many visits in a row: the page shows all rows each time, and it opens no connection that it doesn't use."""
+    """Many visits in a row: the page shows all rows each time."""
     office.go("/", "table.cards")
+    office.until(IS_FILLED)
     first = squeezed(office.table("#content table"))
     found = []
     for _ in range(VISITS):
@@ -108,6 +109,10 @@ def driver_page(site: Site, page: Page) -> Comparisons:
         driver_tab.speak(page, "en")
         driver_tab.sign_in(page, key_of(driver))
         driver_tab.show(page, month)
+        said = page.run(driver_tab.MESSAGE)
+        yield f"what the page of driver {driver} {month} says", said, ""
+        if said:
+            continue
         wanted = DriversMonth(lambda path: site.text(path, key_of(driver)), month, NOW)
         for language in ("en", "de"):
             driver_tab.speak(page, language)

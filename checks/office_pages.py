@@ -11,7 +11,6 @@ import json
 import os
 import random
 import re
-import select
 import shutil
 import sys
 import tempfile
@@ -915,7 +914,7 @@ def sessions(office: Office) -> Comparisons:
          "This key isn't known. Check it, or ask whoever keeps the service."),
         ("a log-out", lambda: office.click("#log-out"), "You are logged out."),
         ("half an hour",
-            lambda: office.run("(globalThis.later = (globalThis.later ?? 0) + 30 * 60000, document.dispatchEvent(new "
+            lambda: office.run("(globalThis.clockLater = (globalThis.clockLater ?? 0) + 30 * 60000, document.dispatchEvent(new "
                 "Event('visibilitychange')), 0)"),
          "You are logged out: for half an hour no key was pressed and nothing was clicked."),
         ("the way back", lambda: office.run("(dispatchEvent(new PageTransitionEvent('pageshow', { persisted: true })), 0)"),
@@ -927,7 +926,7 @@ def sessions(office: Office) -> Comparisons:
         office.go("/", "table.cards")
         if name == "half an hour":
             office.click("#title")
-            office.run("(globalThis.later = 29 * 60000, document.dispatchEvent(new Event('visibilitychange')), 0)")
+            office.run("(globalThis.clockLater = 29 * 60000, document.dispatchEvent(new Event('visibilitychange')), 0)")
             yield "29 minutes", office.texts("#log-out"), ["Log out"]
             office.click("#title")
         leave()

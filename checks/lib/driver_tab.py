@@ -56,9 +56,11 @@ IS_DONE = """document.querySelector("#message") !== null && !document.querySelec
 
 
 def sign_in(page: Page, key: str) -> None:
-    """Types a key, and presses Enter, once the page has its sentences."""
+    """Types a key once the page has its sentences, presses Enter, and waits for what comes next. What the page said before is taken away, so
+    that it isn't that."""
     page.until("""!document.querySelector("#sign-in").hidden""")
-    page.run("""(document.querySelector("#key").value = "", document.querySelector("#key").focus())""")
+    page.run("""(document.querySelector("#message").replaceChildren(), document.querySelector("#key").value = "",
+        document.querySelector("#key").focus())""")
     page.type(key)
     page.press("Enter")
     page.until(IS_DONE)

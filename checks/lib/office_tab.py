@@ -22,7 +22,7 @@ CLOCK = """(() => {
     const Real = Date, moved = %d - Date.now();
     class Moved extends Real {
         constructor(...given) { if (given.length) super(...given); else super(Moved.now()); }
-        static now() { return Real.now() + moved + (globalThis.later ?? 0); }
+        static now() { return Real.now() + moved + (globalThis.clockLater ?? 0); }
     }
     globalThis.Date = Moved;
     const wait = setTimeout;

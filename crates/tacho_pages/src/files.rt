@@ -231,7 +231,7 @@ fn driver() -> &'static str {
 fn driver_driver_js() -> &'static str {
     "// The driver's page: what is left first, then a month. It asks the archive with the driver's key, and shows the replies. The address after
 // `#` is the month; without one it is the last month that has data.
-import { $, KEY_FORM, Problem, bytes, forget, h, keep, key, listed, reading, send, watch } from \"/shared/page.js\";
+import { $, KEY_FORM, Problem, bytes, forget, h, keep, key, listed, reading, send, watch, written } from \"/shared/page.js\";
 import { breachItem, chart, debtsPart, gapsPart, meters, notExaminedBox, sheetTable, undivided, unseenOf } from \"/shared/parts.js\";
 import { lengthOf, readAhead, readBreaches, readDebts, readEntries, readFiles, readGaps, readSheet, readSpans, readVersion, readWhy }
   from \"/shared/read.js\";
@@ -629,13 +629,14 @@ function monthField(month) {
  * The month's breaches: the first ones, and the others folded up.
  * @param {ShownBreach[]} why
  * @param {boolean} isSeen whether a minute of the month is examined
+ * @param {Entry[]} entries
  * @returns {Child}
  */
-function breachList(why, isSeen) {
+function breachList(why, isSeen, entries) {
   if (why.length === 0) {
     return h(\"p\", {}, isSeen ? say.noBreach : say.nothingExamined);
   }
-  const list = (/** @type {ShownBreach[]} */ some) => h(\"ul\", { class: \"list\" }, some.map((breach) => breachItem(breach)));
+  const list = (/** @type {ShownBreach[]} */ some) => h(\"ul\", { class: \"list\" }, some.map((breach) => breachItem(breach, { entries })));
   const others = why.slice(FIRST_BREACHES);
   return [
     list(why.slice(0, FIRST_BREACHES)),
@@ -690,8 +691,8 @@ function entriesPart({ month, entries }) {
     return null;
   }
   const item = (/** @type {Entry} */ entry) => h(\"li\", {},
-    `${both(entry.start)} ${say.to} ${both(entry.past)}: ${say[entry.activity]}, `, h(\"bdi\", {}, entry.author),
-    entry.note ? [\", \", h(\"bdi\", {}, entry.note)] : null, entry.state === \"withdrawn\" ? ` (${say.isWithdrawn})` : \"\");
+    `${both(entry.start)} ${say.to} ${both(entry.past)}: ${say[entry.activity]}, `, written(entry.author),
+    entry.note ? [\", \", written(entry.note)] : null, entry.state === \"withdrawn\" ? ` (${say.isWithdrawn})` : \"\");
   return h(\"details\", { id: \"entries\" }, h(\"summary\", {}, say.entered(inMonth.length)), h(\"ul\", {}, inMonth.map(item)));
 }
 
@@ -701,7 +702,7 @@ function entriesPart({ month, entries }) {
  * @returns {Child[]}
  */
 function monthParts(month) {
-  const { sheet, spans, stretches, why, debts, end } = month;
+  const { sheet, spans, stretches, why, debts, entries, end } = month;
   const range = rangeOf(month.month);
   const unseen = unseenOf(stretches, range);
   const isSeen = unseen.reduce((sum, one) => sum + one.past - one.start, 0) < range[1] - range[0];
@@ -710,11 +711,11 @@ function monthParts(month) {
   const isOver = (/** @type {{start: number}} */ day) => day.start < Math.max(end, now());
   const [days, later] = [sheet.days.filter(isOver), sheet.days.filter((day) => !isOver(day))];
   return [
-    h(\"h1\", { id: \"title\", tabindex: \"-1\" }, h(\"bdi\", {}, sheet.name)),
+    h(\"h1\", { id: \"title\", tabindex: \"-1\" }, written(sheet.name)),
     leftPart(month),
     monthHead(month),
     h(\"h2\", { id: \"breaches-head\" }, `${say.breaches}${why.length > 0 ? `: ${why.length}` : \"\"}`),
-    h(\"div\", { id: \"breaches\" }, breachList(why, isSeen)),
+    h(\"div\", { id: \"breaches\" }, breachList(why, isSeen, entries)),
     otherMonths(month),
     h(\"section\", { class: \"keep\", id: \"chart\" }, h(\"h2\", {}, say.chart), chart({
       spans, gaps, breaches: why, unseen, days, range, labelledBy: \"chart-name title month-head\", describedBy: \"breaches\",
@@ -1250,7 +1251,7 @@ export const field = (id, label, attributes) =>
 /// The text at `/office/entries.js`.
 fn office_entries_js() -> &'static str {
     "// A driver's entries, and their withdrawal.
-import { $, h } from \"/shared/page.js\";
+import { $, h, written } from \"/shared/page.js\";
 import { both, length, monthName, say } from \"/shared/say.js\";
 import { readDrivers, readEntries } from \"/shared/read.js\";
 import { ask, button, confirmed, head, listTable, notice, thisMonth, tool } from \"./office.js\";
@@ -1276,8 +1277,8 @@ const columnsOf = (withdrawOne) => [
   { head: say.fromTo, cell: (one) => h(\"span\", { class: \"v\" }, `${both(one.start)} ${say.to} ${both(one.past)}`,
     h(\"small\", {}, ` ${length(one.past - one.start)}`)) },
   { head: say.what, cell: (one) => say[one.activity] },
-  { head: say.author, cell: (one) => one.author }, { head: say.noteLabel, kindOf: (one) => (one.note ? \"\" : \"quiet\"),
-    cell: (one) => one.note },
+  { head: say.author, cell: (one) => written(one.author) }, { head: say.noteLabel, kindOf: (one) => (one.note ? \"\" : \"quiet\"),
+    cell: (one) => written(one.note) },
   { head: say.state, cell: (one) => (one.state === \"withdrawn\" ? h(\"span\", { class: \"dim\" }, say.isWithdrawn)
     : button(say.withdraw, () => withdrawOne(Number(one.number)),
       { class: \"small no-print\", \"aria-label\": `${say.withdraw}: ${one.number}` })) },
@@ -1299,7 +1300,7 @@ export async function page({ signal, args: [driver], again }) {
   const [person] = readDrivers(await ask(`/drivers/${driver}`, signal));
   const entries = readEntries(await ask(`/drivers/${driver}/entries`, signal));
   const act = (first, last) => withdraw(driver, first, last, again);
-  return [head([h(\"bdi\", {}, person.name), `: ${say.entries}`], tool(`/drivers/${driver}/gaps`, say.gapForm),
+  return [head([written(person.name), `: ${say.entries}`], tool(`/drivers/${driver}/gaps`, say.gapForm),
     tool(`/drivers/${driver}/${thisMonth()}`, monthName(thisMonth()))),
     h(\"p\", {}, say.entriesHelp), entries.length === 0 ? h(\"p\", { class: \"box\" }, say.noEntries)
       : [entries.length > 1 ? rangeForm(entries.length, act) : null,
@@ -1315,7 +1316,7 @@ import { h } from \"/shared/page.js\";
 import { minuteOf, textOf } from \"/shared/time.js\";
 import { both, monthName, say } from \"/shared/say.js\";
 import { cardOf, holderOf, readDrivers } from \"/shared/read.js\";
-import { ask, atLogOut, button, confirmed, head, link, proposed, thisMonth, unfinished } from \"./office.js\";
+import { ask, atLogOut, button, confirmed, head, link, proposed, telling, thisMonth, unfinished } from \"./office.js\";
 import { codeOf, command, isUnsure } from \"./commands.js\";
 
 const MOST = 262_144, NAME = /\\.(ddd|c1b|tgd|esm)$/i, FAULTS_IN_A_ROW = 2;
@@ -1354,14 +1355,16 @@ function whatOf(status, line, whose) {
 const KINDS = { added: \"good\", repeated: \"same\", noCard: \"same\", waiting: \"\", sending: \"\" };
 
 /** The sentence of an item.
- * @type {(item: Item) => string} */
+ * @type {(item: Item) => import(\"./office.js\").Content} */
 function sentenceOf({ file, outcome: { what, line, whose } }) {
   const [, driver, number] = /driver (\\d+)(?: number (\\d+))?$/.exec(line) ?? [];
-  if (what === \"added\") return say.added(file.name, nameOf(driver), number);
-  if (what === \"repeated\") return say.repeated(file.name, nameOf(driver));
-  if (what === \"unknownCard\") return say.unknownCard(file.name, whose ? `${whose.name}, ${cardOf(whose.holder)}` : \"\");
-  if (what === \"contradicts\") return say.contradicts(file.name, both(minuteOf(line.slice(-16))));
-  return say[what](file.name, line);
+  if (what === \"added\") return telling((name, who) => say.added(name, who, number), file.name, nameOf(driver));
+  if (what === \"repeated\") return telling(say.repeated, file.name, nameOf(driver));
+  if (what === \"unknownCard\" && whose) {
+    return telling((name, who) => say.unknownCard(name, `${who}, ${cardOf(whose.holder)}`), file.name, whose.name);
+  }
+  if (what === \"contradicts\") return telling((name) => say.contradicts(name, both(minuteOf(line.slice(-16)))), file.name);
+  return telling((name) => say[what](name, line), file.name);
 }
 
 /** What can be done about an item.
@@ -1532,7 +1535,7 @@ export async function page({ signal }) {
 /// The text at `/office/gaps.js`.
 fn office_gaps_js() -> &'static str {
     "// The gaps as a form, in local time. It sends UTC.
-import { h } from \"/shared/page.js\";
+import { h, written } from \"/shared/page.js\";
 import { DAY, dateOf, localText, minuteOf, minutesOfLocal, textOf } from \"/shared/time.js\";
 import { length, localMoment, monthName, say } from \"/shared/say.js\";
 import { readDrivers, readEntries, readForm } from \"/shared/read.js\";
@@ -1619,7 +1622,7 @@ class GapForm {
     this.told.textContent = say.rows(count);
     this.save.disabled = count === 0 || this.isSending;
     unfinished.delete(\"gaps\");
-    if (count) unfinished.add(\"gaps\");
+    if (count && this.node.isConnected) unfinished.add(\"gaps\"); // a reply may come when another page is shown
   }
 
   /** @type {() => Piece[]} the pieces that are to be saved */
@@ -1718,7 +1721,7 @@ export async function page(context) {
   const [person] = readDrivers(await ask(`/drivers/${driver}`, signal));
   const gaps = readForm(await ask(`/drivers/${driver}/form`, signal)),
     entries = readEntries(await ask(`/drivers/${driver}/entries`, signal));
-  const title = head([h(\"bdi\", {}, person.name), `: ${say.gaps}`], tool(`/drivers/${driver}/entries`, say.entries),
+  const title = head([written(person.name), `: ${say.gaps}`], tool(`/drivers/${driver}/entries`, say.entries),
     tool(`/drivers/${driver}/${thisMonth()}`, monthName(thisMonth())));
   if (gaps.length === 0) return [title, h(\"p\", { class: \"box good\" }, say.noGapsAtAll)];
   const form = new GapForm(driver, gaps.map((gap) => ({ ...gap, activity: \"\", note: \"\" })), entries.length, context);
@@ -1731,7 +1734,7 @@ export async function page(context) {
 fn office_inspection_js() -> &'static str {
     "// An inspection: what the archive hands over of a driver and a period, and what isn't in it. What is shown is read in the tar file that
 // is saved.
-import { $, Problem, bytes, h } from \"/shared/page.js\";
+import { $, Problem, bytes, h, written } from \"/shared/page.js\";
 import { DAY, dateOf, minuteOf, monthOf, monthStep, now } from \"/shared/time.js\";
 import { both, monthName, say, utcDay } from \"/shared/say.js\";
 import { cardOf, linesOf, readDrivers } from \"/shared/read.js\";
@@ -1810,7 +1813,7 @@ async function shown(person, blob) {
     !gaps.some((gap) => gap.start < day + DAY && day < gap.past)).length;
   const name = `${person.number}-${asked.from}-${asked.to}.tar`;
   const period = `${utcDay(first)} ${say.to} ${utcDay(past - DAY)} (UTC)`;
-  return [h(\"p\", {}, `${person.name} · ${cardOf(person.holder)} · ${period} · ${say.knownOf(known, days)}`),
+  return [h(\"p\", {}, written(person.name), ` · ${cardOf(person.holder)} · ${period} · ${say.knownOf(known, days)}`),
     h(\"h2\", {}, say.give), listTable(columns(), files),
     h(\"p\", { class: \"no-print\" }, button(say.makeTar, () => save(blob, name), { class: \"main\", id: \"save-tar\" }),
       h(\"span\", { class: \"note\" }, ` ${say.tarHelp(name)}`)),
@@ -1831,7 +1834,7 @@ function askForm(people, again) {
   return h(\"form\", { class: \"row end no-print\", onsubmit: submit },
     h(\"div\", { class: \"field\" }, h(\"label\", { for: \"who\" }, say.colDriver), h(\"select\", { id: \"who\" },
       people.map((one) => h(\"option\", { value: String(one.number), selected: String(one.number) === asked?.driver },
-        `${one.name} (${one.number})`)))),
+        `\\u2068${one.name.replace(/\\p{Bidi_Control}/gu, \"\")}\\u2069 (${one.number})`)))),
     field(\"from\", say.periodFrom, { type: \"date\", value: asked?.from ?? dateOf(now() - DAYS_BEFORE * DAY) }),
     field(\"to\", say.periodTo, { type: \"date\", value: asked?.to ?? dateOf(now()) }), h(\"button\", { class: \"main\" }, say.show));
 }
@@ -1857,7 +1860,7 @@ export async function page({ signal, again }) {
 /// The text at `/office/left.js`.
 fn office_left_js() -> &'static str {
     "// What is left until the limits, for all drivers and for one. Each loads what the other doesn't need.
-import { h } from \"/shared/page.js\";
+import { h, written } from \"/shared/page.js\";
 import { DAY, textOf, tomorrow } from \"/shared/time.js\";
 import { both, length, localMoment, monthName, say, shortUtcDay } from \"/shared/say.js\";
 import { leftOf, readAhead, readDebts, readDrivers } from \"/shared/read.js\";
@@ -1930,7 +1933,7 @@ function columns() {
       (left, row) => (left.weekly !== null && left.weekly - row.ahead.start < DAY ? \"warn-text\" : \"\")],
     [(left, row) => `${row.ahead.reduced}/3 · ${row.ahead.extended}/2`, \"quiet\"],
   ];
-  return [{ head: driver, cell: (row) => [link(`/drivers/${row.driver}/left`, row.name), h(\"small\", {}, ` ${row.driver}`)] },
+  return [{ head: driver, cell: (row) => [link(`/drivers/${row.driver}/left`, written(row.name)), h(\"small\", {}, ` ${row.driver}`)] },
     { head: held, kind: \"when\", cell: heldCell },
     ...cells.map(([cell, kind], k) => ({
       head: heads[k], kind: \"num\", kindOf: (row) => (typeof kind === \"string\" ? kind : kind(leftOf(row.ahead), row)),
@@ -1941,7 +1944,7 @@ function columns() {
 /** Of whom nothing can be said, and why.
  * @type {(rows: Forecast[]) => import(\"./office.js\").Content} */
 const untold = (rows) => (rows.length === 0 ? null : [h(\"h2\", {}, say.leftUntold), h(\"ul\", { id: \"untold\" }, rows.map((row) => h(\"li\", {},
-  link(`/drivers/${row.driver}/${thisMonth()}`, row.name), ` (${row.driver}): `,
+  link(`/drivers/${row.driver}/${thisMonth()}`, written(row.name)), ` (${row.driver}): `,
     row.held === null ? say.noLeft : row.ahead === null ? say.leftCrew
     : `${say.colHeld} ${localMoment(row.held)}. ${say.leftStale(staleOf(row))}`)))]);
 
@@ -1984,7 +1987,7 @@ async function leftOne({ signal, args: [driver], again }) {
   const ahead = readAhead(await ask(`/drivers/${driver}/ahead/${textOf(startOfDriving()).replace(\" \", \"/\")}`, signal)),
     [person] = readDrivers(await ask(`/drivers/${driver}`, signal));
   const debts = readDebts(await ask(`/drivers/${driver}/debts`, signal));
-  const title = head([h(\"bdi\", {}, person.name), `: ${say.left}`], tool(`/drivers/${driver}/${thisMonth()}`, monthName(thisMonth())),
+  const title = head([written(person.name), `: ${say.left}`], tool(`/drivers/${driver}/${thisMonth()}`, monthName(thisMonth())),
     printButton());
   const held = isNever(ahead) ? \"\" : ` · ${say.colHeld} ${both(ahead.held)}`;
   return [title, startForm(again), h(\"p\", {}, h(\"b\", {}, `${say.startAt}: ${both(ahead.start)}`), held), toldOf(ahead, meters),
@@ -1999,12 +2002,12 @@ export const page = (context) => (context.args.length ? leftOne(context) : leftA
 /// The text at `/office/letter.js`.
 fn office_letter_js() -> &'static str {
     "// A letter to a driver about the breaches of a month, in UTC with local time.
-import { h } from \"/shared/page.js\";
+import { h, written } from \"/shared/page.js\";
 import { DAY, now, rangeOf } from \"/shared/time.js\";
 import { formal, languageNow, localMoment, monthName, say, withLanguage } from \"/shared/say.js\";
 import { cardOf, readDrivers, readEntries, readFiles, readVersion, readWhy } from \"/shared/read.js\";
 import { breachItem, isUnfinished } from \"/shared/parts.js\";
-import { ask, button, head, languageField, tool } from \"./office.js\";
+import { ask, button, head, languageField, telling, tool } from \"./office.js\";
 
 const SENDER = \"tacho.sender\", LANGUAGE = \"tacho.letter.\", DAYS_TO_ANSWER = 14, DIGITS = 12, ANSWER_LINES = 3;
 
@@ -2032,21 +2035,21 @@ function sourceLine(files, entries, program) {
     ` ${say.foot}`, entries.length ? ` ${say.letterHand} ${entries.map(entryText).join(\"; \")}.` : \"\");
 }
 
-/** The sheet that is printed, in the language that is set.
- * @type {(parts: { person: any, ready: any[], files: any[], entries: any[], program: string, month: string, language: string }) =>
- *  HTMLElement} */
-function sheetOf({ person, ready, files, entries, program, month, language }) {
+/** The sheet that is printed, in the language that is set. `ofMonth` are the month's entries; evidence may be of earlier months.
+ * @type {(parts: { person: any, ready: any[], files: any[], entries: any[], ofMonth: any[], program: string, month: string,
+ *  language: string }) => HTMLElement} */
+function sheetOf({ person, ready, files, entries, ofMonth, program, month, language }) {
   const { field, printed } = sender();
   const day = (minute) => localMoment(minute, true).slice(0, -6);
   return h(\"article\", { class: \"sheet\", lang: language },
     h(\"div\", { class: \"address\" }, h(\"div\", {}, field, printed), h(\"div\", {}, `${say.date2}: ${day(now())}`)),
-    h(\"p\", {}, person.name, h(\"br\"), h(\"span\", { class: \"note\" }, `${say.cardNo}: ${cardOf(person.holder)}`)),
-    h(\"h2\", {}, say.letterHead(monthName(month))), h(\"p\", {}, say.dear(person.name)),
+    h(\"p\", {}, written(person.name), h(\"br\"), h(\"span\", { class: \"note\" }, `${say.cardNo}: ${cardOf(person.holder)}`)),
+    h(\"h2\", {}, say.letterHead(monthName(month))), h(\"p\", {}, telling(say.dear, person.name)),
     ready.length === 0 ? h(\"p\", {}, say.letterNone) : [
       h(\"p\", {}, say.letterIntro(ready.length, monthName(month))),
-      h(\"ol\", { class: \"list\" }, ready.map((one, k) => breachItem(one, { formalTimes: true, number: k + 1 }))),
+      h(\"ol\", { class: \"list\" }, ready.map((one, k) => breachItem(one, { formalTimes: true, number: k + 1, entries }))),
       h(\"div\", { class: \"end\" }, h(\"p\", {}, `${say.letterAsk} ${day(now() + DAYS_TO_ANSWER * DAY)}.`), h(\"p\", {}, say.letterInstruct),
-        sourceLine(files, entries, program),
+        sourceLine(files, ofMonth, program),
         h(\"h3\", {}, say.answer), Array.from({ length: ANSWER_LINES }, () => h(\"div\", { class: \"lines\" })),
         h(\"div\", { class: \"signs\" }, h(\"div\", {}, say.forOffice, h(\"br\"), say.signed), h(\"div\", {}, say.forDriver, h(\"br\"), say.signed)))]);
 }
@@ -2061,7 +2064,7 @@ export async function page({ signal, args: [driver, month], again }) {
   const ready = all.filter((one) => !isUnfinished(one)), language = languageOf(driver);
   const choose = languageField(language, (one) => { localStorage.setItem(LANGUAGE + driver, one); again(); }, { id: \"letter-language\" });
   return [h(\"div\", { class: \"no-print\" },
-    head([`${say.letter}: `, h(\"bdi\", {}, person.name), `, ${monthName(month)}`],
+    head([`${say.letter}: `, written(person.name), `, ${monthName(month)}`],
       h(\"label\", { for: \"letter-language\" }, say.letterLanguage), choose,
       tool(`/drivers/${driver}/${month}`, monthName(month)), button(say.print, () => print(), { class: \"main\" })),
     ready.length < all.length ? h(\"div\", { class: \"box warn\", id: \"left-out\" }, h(\"p\", {}, say.letterOpen(all.length - ready.length)))
@@ -2069,7 +2072,7 @@ export async function page({ signal, args: [driver, month], again }) {
     h(\"p\", { class: \"note\" }, `${say.from}: ${say.senderHelp}`)),
   await withLanguage(language, () => sheetOf({
     person, ready, month, language, program, files: files.filter(isWithin),
-      entries: entries.filter((one) => one.state === \"kept\" && isWithin(one)),
+      entries, ofMonth: entries.filter((one) => one.state === \"kept\" && isWithin(one)),
   }))];
 }
 "
@@ -2078,7 +2081,7 @@ export async function page({ signal, args: [driver, month], again }) {
 /// The text at `/office/month.js`.
 fn office_month_js() -> &'static str {
     "// A driver's month.
-import { Problem, h } from \"/shared/page.js\";
+import { Problem, h, written } from \"/shared/page.js\";
 import { monthStep, now, offsetText, rangeOf, zone } from \"/shared/time.js\";
 import { monthName, say } from \"/shared/say.js\";
 import { readBreaches, readDebts, readEntries, readFiles, readGaps, readSheet, readSpans, readWhy } from \"/shared/read.js\";
@@ -2144,10 +2147,10 @@ export async function page({ signal, args: [driver, month, day] }) {
   const seen = range[1] - range[0] - unseen.reduce((sum, one) => sum + one.past - one.start, 0);
   const shown = chart({ spans, gaps, breaches, unseen, days, range });
   if (day) shown.map((one) => one.querySelector(`#day-${month}-${day}`)).find(Boolean)?.classList.add(\"seek\");
-  return [head([h(\"bdi\", {}, sheet.name), ` (${driver}), ${monthName(month)}`], toolsOf(driver, month)), facts(sheet.total),
+  return [head([written(sheet.name), ` (${driver}), ${monthName(month)}`], toolsOf(driver, month)), facts(sheet.total),
     notExaminedBox(stretches, range, end, gaps, link(`/drivers/${driver}/gaps`, say.gapForm)),
     h(\"h2\", { id: \"breaches-head\" }, `${say.breaches}${breaches.length ? `: ${breaches.length}` : \"\"}`),
-    breaches.length ? h(\"ul\", { class: \"list\", \"aria-labelledby\": \"breaches-head\" }, breaches.map((one) => breachItem(one)))
+    breaches.length ? h(\"ul\", { class: \"list\", \"aria-labelledby\": \"breaches-head\" }, breaches.map((one) => breachItem(one, { entries })))
       : h(\"p\", { id: \"no-breach\" }, seen > 0 ? say.noBreach : say.nothingExamined),
     h(\"section\", { class: \"keep\" }, h(\"h2\", {}, say.chart), shown),
     h(\"div\", { class: \"tellings\" },
@@ -2232,6 +2235,11 @@ tbody tr:hover {
   align-items: end;
 }
 
+.field {
+  grid-template-columns: minmax(0, auto);
+  max-width: 100%;
+}
+
 /* Sums that choose rows */
 .sums {
   display: flex;
@@ -2273,9 +2281,14 @@ tbody tr:hover {
   color: var(--good);
 }
 
-.cards tbody th,
 .cards .when {
   white-space: nowrap;
+}
+
+/* A long name is divided, rather than that the table goes beyond the margins. */
+.cards tbody th {
+  min-width: 9rem;
+  overflow-wrap: anywhere;
 }
 
 @media (min-width: 64rem) {
@@ -2711,18 +2724,6 @@ button:disabled {
   font-size: .9rem;
 }
 
-/* A name has any signs: those that turn the direction of writing, or pile up, stay within it. */
-bdi,
-.cards th a,
-li > a {
-  display: inline-block;
-}
-
-.cards th {
-  overflow: clip;
-  overflow-clip-margin: 4px;
-}
-
 .many th,
 .many td {
   padding-inline: .3rem;
@@ -2783,7 +2784,7 @@ dialog::backdrop {
 fn office_office_js() -> &'static str {
     "// The frame of the office's pages: the key, the address after #, which names the page, and what several pages use. Each page is a module
 // that is loaded when it is first opened.
-import { $, KEY_FORM, MODULE, Problem, forget, h, keep, key, listed, moduleAt, reading } from \"/shared/page.js\";
+import { $, KEY_FORM, MODULE, Problem, forget, h, keep, key, listed, moduleAt, reading, written } from \"/shared/page.js\";
 import { localText, minutesOfLocal, monthOf, now, offsetText, textOf, zone } from \"/shared/time.js\";
 import { readVersion } from \"/shared/read.js\";
 import { LANGUAGES, languageNow, ready, say, speak } from \"/shared/say.js\";
@@ -2793,7 +2794,7 @@ import { LANGUAGES, languageNow, ready, say, speak } from \"/shared/say.js\";
  *  requests, the parts of its address, and how to show it anew */
 /** @typedef {{ head: string, cell: (row: any) => Content, kind?: string, kindOf?: (row: any) => string }} Column a column of a list */
 
-const IDLE = 30 * 60_000, PATIENCE = 35_000;
+const IDLE = 30 * 60_000;
 
 // What pages leave to others. A log-out clears it.
 
@@ -2830,6 +2831,14 @@ export const notice = (kind, ...children) =>
 /** @type {() => HTMLElement} the line about local time */
 export const zoneLine = () => h(\"p\", { class: \"note\" }, say.zoneNote(zone(), offsetText(now())));
 
+/** A sentence with texts that somebody wrote, each in its element. The sentence gets a sign of no script in place of each text, so that no
+ *  text is taken for another.
+ * @type {(sentence: (...texts: string[]) => string, ...texts: string[]) => Content} */
+export function telling(sentence, ...texts) {
+  const signs = texts.map((_, k) => String.fromCharCode(0xe000 + k));
+  return sentence(...signs).split(/([\\ue000-\\uf8ff])/).map((part, k) => (k % 2 ? written(texts[signs.indexOf(part)]) : part));
+}
+
 /** A row of a list.
  * @type {(columns: Column[], row: any) => HTMLElement} */
 export const listRow = (columns, row) => h(\"tr\", { role: \"row\" }, columns.map((column, k) => {
@@ -2849,11 +2858,11 @@ export function listTable(columns, rows, body = h(\"tbody\", { role: \"rowgroup\
 }
 
 /** Asks a question in a dialog. Resolves to whether the action was chosen.
- * @type {(question: string, action: string) => Promise<boolean>} */
-export const confirmed = (question, action) => new Promise((resolve) => {
+ * @type {(question: Content, action: string, other?: string) => Promise<boolean>} */
+export const confirmed = (question, action, other = say.keepIt) => new Promise((resolve) => {
   const dialog = h(\"dialog\", { \"aria-labelledby\": \"question\", onclose: () => { dialog.remove(); resolve(dialog.returnValue === \"yes\"); } },
     h(\"p\", { id: \"question\" }, question),
-    h(\"div\", { class: \"row\" }, button(action, () => dialog.close(\"yes\"), { class: \"main\" }), button(say.keepIt, () => dialog.close(\"\"))));
+    h(\"div\", { class: \"row\" }, button(action, () => dialog.close(\"yes\"), { class: \"main\" }), button(other, () => dialog.close(\"\"))));
   document.body.append(dialog);
   dialog.showModal();
 });
@@ -2891,36 +2900,16 @@ export function momentField(id, label, start) {
 /** @type {Promise<unknown>} */
 let queue = Promise.resolve();
 
-/** Says that there were too many requests, and that the page asks again.
+/** Says that there were too many requests, and that the page asks again. What takes long says no more beside it.
  * @type {(seconds: number) => void} */
-export const tellWait = (seconds) => tellBusy(say.askAgain(seconds), true);
-
-/** A reading. Where no reply comes within a time, it is given up.
- * @type {(path: string, signal: AbortSignal) => Promise<string>} */
-async function inTime(path, signal) {
-  signal.throwIfAborted();
-  const late = new AbortController();
-  let timer = setTimeout(() => late.abort(), PATIENCE);
-  const wait = (seconds) => {
-    tellWait(seconds);
-    clearTimeout(timer);
-    timer = setTimeout(() => late.abort(), PATIENCE + 1000 * seconds);
-  };
-  try {
-    return await reading(path, { signal: AbortSignal.any([signal, late.signal]), wait });
-  } catch (fault) {
-    throw late.signal.aborted && !signal.aborted ? new Problem(\"noReply\") : fault;
-  } finally {
-    clearTimeout(timer);
-  }
-}
+export const tellWait = (seconds) => { timers.forEach(clearTimeout); tellBusy(say.askAgain(seconds), true); };
 
 /** A reading, once the readings before it have ended: the archive answers one after the other, and a wrong key is sent once.
  * @type {(path: string, signal: AbortSignal) => Promise<string>} */
 export function ask(path, signal) {
-  const mine = queue.then(() => inTime(path, signal));
+  const mine = queue.then(() => reading(path, { signal, wait: tellWait }));
   queue = mine.then(() => undefined, () => undefined);
-  return mine;
+  return busy(mine);
 }
 
 /** @type {(fault: any) => string} the sentence of a fault of a reading */
@@ -2985,7 +2974,10 @@ function showFrame(to) {
   const isAt = (where) => (where === \"/\" ? to === \"/\" : to.startsWith(where.startsWith(\"/month\") ? \"/month\" : where));
   $(\"nav\").replaceChildren(...(isIn ? places.map(([where, text]) => link(where, text, { \"aria-current\": isAt(where) ? \"page\" : null }))
     : []));
-  const change = (language) => busy(speak(language)).then(() => render(), (fault) => render(notice(\"bad\", sentenceOf(fault))));
+  const change = async (language) => {
+    if (!await mayLeave()) { showFrame(to); return; }
+    busy(speak(language)).then(() => render(), (fault) => render(notice(\"bad\", sentenceOf(fault))));
+  };
   const select = languageField(languageNow(), change, { id: \"language\", class: \"small\", \"aria-label\": say.language });
   $(\"tools\").replaceChildren(select, ...(isIn ? [button(say.logOut, leave, { class: \"small\", id: \"log-out\" })] : []));
 }
@@ -3018,13 +3010,31 @@ async function contentOf(to, signal, again) {
   return module.page({ signal, args: found[0].exec(to).slice(1), again });
 }
 
+/** The address of what is shown, or is about to be. */
+let place = \"\";
+
+/** Whether the page may be left: where hours are filled in and not saved it asks, once at a time.
+ * @type {() => Promise<boolean>} */
+const mayLeave = async () => !unfinished.has(\"gaps\")
+  || ($(\"question\") === null && await confirmed(say.leaveGaps, say.leaveUnsaved, say.stay));
+
+/** Shows the page of another address, if this one may be left. Until that is answered, the address is that of what is shown.
+ * @type {() => Promise<void>} */
+async function follow() {
+  if (!unfinished.has(\"gaps\")) { render(); return; }
+  history.pushState(null, \"\", `#${place}`);
+  if (!await mayLeave()) return;
+  unfinished.delete(\"gaps\");
+  history.back();
+}
+
 /** Shows the page of the address. Its content stays until the next one is there.
  * @type {(notice?: Node | null) => Promise<void>} */
 async function render(told = null) {
   current.abort();
   unfinished.delete(\"gaps\");
   const mine = new AbortController(), to = address();
-  current = mine;
+  [current, place] = [mine, to];
   showFrame(to);
   if (key() === null) { showSignIn(told); return; }
   let made;
@@ -3117,11 +3127,12 @@ addEventListener(\"keydown\", stay, true);
 addEventListener(\"pointerdown\", stay, true);
 setInterval(leaveIfIdle, 5000);
 document.addEventListener(\"visibilitychange\", leaveIfIdle);
-addEventListener(\"pageshow\", (event) => { if (event.persisted && key() !== null) logOut(notice(\"good\", say.loggedOut)); });
+// The browser may keep the page while another is shown, whose log-out this one knows nothing of.
+addEventListener(\"pageshow\", (event) => { if (event.persisted) logOut(notice(\"good\", say.loggedOut)); });
 addEventListener(\"beforeunload\", (event) => { if (unfinished.size > 0) event.preventDefault(); });
 $(\"skip\").addEventListener(\"click\", (event) => { event.preventDefault(); $(\"content\").focus(); });
 ready.then(() => {
-  addEventListener(\"hashchange\", () => render());
+  addEventListener(\"hashchange\", follow);
   render();
 });
 "
@@ -3130,7 +3141,7 @@ ready.then(() => {
 /// The text at `/office/overview.js`.
 fn office_overview_js() -> &'static str {
     "// A month of all drivers: what each did, how much of it was examined, and each breach.
-import { h } from \"/shared/page.js\";
+import { h, written } from \"/shared/page.js\";
 import { DAY, monthStep, now, rangeOf } from \"/shared/time.js\";
 import { amountText, both, hm, length, monthName, say } from \"/shared/say.js\";
 import { readIncidents, readOverview } from \"/shared/tables.js\";
@@ -3156,7 +3167,7 @@ const dimIfNone = (name) => (row) => (row[name] ? \"\" : \"quiet dim\");
  * @type {(month: string, total: any) => import(\"./office.js\").Column[]} */
 const columnsOf = (month, total) => [
   { head: say.colDriver, cell: (row) => (row.driver === null ? row.name
-    : [link(`/drivers/${row.driver}/${month}`, row.name), h(\"small\", {}, ` ${row.driver}`)]) },
+    : [link(`/drivers/${row.driver}/${month}`, written(row.name)), h(\"small\", {}, ` ${row.driver}`)]) },
   ...[\"drive\", \"work\", \"available\", \"rest\", \"crew\", \"none\"].filter((name) => total[name] || name === \"drive\")
     .map((name) => ({ head: say.sheetColumns[1 + COLUMNS.indexOf(name)], kind: \"num\", kindOf: dimIfNone(name), cell: time(name) })),
   { head: say.notExamined, kind: \"num\", kindOf: (row) => (row.missing > 0 ? \"\" : \"quiet dim\"),
@@ -3179,7 +3190,7 @@ function monthTable(columns, rows, total) {
 function breachesOf(rows, month) {
   if (rows.length === 0) return h(\"p\", {}, say.noBreach);
   return listTable([
-    { head: say.colDriver, cell: (row) => [link(`/drivers/${row.driver}/${month}`, row.name), h(\"small\", {}, ` ${row.driver}`)] },
+    { head: say.colDriver, cell: (row) => [link(`/drivers/${row.driver}/${month}`, written(row.name)), h(\"small\", {}, ` ${row.driver}`)] },
     { head: say.breach, kind: \"first\", cell: (row) => `${say.short[row.kind]} (${row.kind})` },
     { head: say.extent, kind: \"num\", cell: (row) => amountText(row) || \"–\" },
     { head: capital(say.at), cell: (row) => h(\"span\", { class: \"v\" }, both(row.moment)) },
@@ -3208,11 +3219,11 @@ export async function page({ signal, args: [month] }) {
 /// The text at `/office/people.js`.
 fn office_people_js() -> &'static str {
     "// The drivers: one or many are added, and a key, base or name is changed. A key is made here, at random, and shown once.
-import { $, h, key } from \"/shared/page.js\";
+import { $, h, key, written } from \"/shared/page.js\";
 import { DAY, dateOf, minuteOf, now, weekdayOf } from \"/shared/time.js\";
 import { say, utcDay } from \"/shared/say.js\";
 import { cardOf, holderOf, readDrivers } from \"/shared/read.js\";
-import { ask, atLogOut, button, confirmed, head, link, listTable, notice, proposed } from \"./office.js\";
+import { ask, atLogOut, button, confirmed, head, link, listTable, notice, proposed, telling } from \"./office.js\";
 import { command, field, isUnsure, refusal } from \"./commands.js\";
 
 const LETTERS = \"abcdefghijkmnopqrstuvwxyzABCDEFGHJKLMNPQRSTUVWXYZ23456789\", KEY_LENGTH = 32, BYTES = 256;
@@ -3240,7 +3251,7 @@ function newKey() {
 // Slips
 
 /** @type {(slip: Slip) => HTMLElement} */
-const slipOf = (slip) => h(\"article\", { class: \"sheet slip\" }, h(\"h2\", {}, say.slipHead), h(\"p\", {}, slip.name),
+const slipOf = (slip) => h(\"article\", { class: \"sheet slip\" }, h(\"h2\", {}, say.slipHead), h(\"p\", {}, written(slip.name)),
   h(\"p\", {}, say.slipText, \" \", h(\"b\", { class: \"where\" }, localStorage.getItem(PLACE) || \"………………………………\")),
   h(\"p\", { class: \"key\" }, h(\"code\", {}, slip.key.replace(/(.{4})(?=.)/g, \"$1 \"))), h(\"p\", { class: \"note\" }, say.slipCare));
 
@@ -3276,7 +3287,7 @@ async function register(one) {
 let isActing = false;
 
 /** Does something, once, and shows the page anew with what became of it.
- * @type {(work: () => Promise<{ status: number, line: string }>, expected: string, said: () => string,
+ * @type {(work: () => Promise<{ status: number, line: string }>, expected: string, said: () => import(\"./office.js\").Content,
  *  again: (notice?: Node) => void) => Promise<void>} */
 async function act(work, expected, said, again) {
   if (isActing) return;
@@ -3295,13 +3306,13 @@ async function act(work, expected, said, again) {
 /** Gives a driver a new key, after a question.
  * @type {(person: any, again: (notice?: Node) => void) => Promise<void>} */
 async function changeKey(person, again) {
-  if (!await confirmed(say.newKeyAsk(person.name), say.newKey)) return;
+  if (!await confirmed(telling(say.newKeyAsk, person.name), say.newKey)) return;
   const made = newKey();
   await act(async () => {
     const told = await command(`/drivers/${person.number}/key`, `${made}\\n`);
     if (told.line === `key ${person.number}` || isUnsure(told.status)) slips.push({ name: person.name, key: made });
     return told;
-  }, `key ${person.number}`, () => say.newKeyDone(person.name), again);
+  }, `key ${person.number}`, () => telling(say.newKeyDone, person.name), again);
 }
 
 /** The form that changes a driver's name and base.
@@ -3314,13 +3325,13 @@ function changeForms(person, again) {
   return h(\"details\", { class: \"change no-print\" }, h(\"summary\", { \"aria-label\": `${say.setBase}: ${person.name}` }, say.setBase),
     h(\"form\", { class: \"row\", onsubmit: (event) => {
       event.preventDefault();
-      act(() => command(`/drivers/${number}/name`, `${name.value.trim()}\\n`), `name ${number}`, () => say.nameDone(name.value.trim()),
-        again);
+      act(() => command(`/drivers/${number}/name`, `${name.value.trim()}\\n`), `name ${number}`,
+        () => telling(say.nameDone, name.value.trim()), again);
     } }, name, h(\"button\", { class: \"small\" }, say.setName)),
     h(\"form\", { class: \"row\", onsubmit: (event) => {
       event.preventDefault();
       act(() => command(`/drivers/${number}/base/${base.value}`), `base ${base.value}`,
-        () => say.baseDone(person.name, utcDay(minuteOf(base.value))), again);
+        () => telling((who) => say.baseDone(who, utcDay(minuteOf(base.value))), person.name), again);
     } }, base, h(\"button\", { class: \"small\" }, say.setBaseTo)));
 }
 
@@ -3340,7 +3351,7 @@ function addForm(people, again) {
       const told = await register(one);
       if (told.status === 201) proposed.person = null;
       return told;
-    }, `registered ${one.driver}`, () => say.addedDriver(one.name, one.driver), again);
+    }, `registered ${one.driver}`, () => telling((who) => say.addedDriver(who, one.driver), one.name), again);
   };
   const fromFile = async (event) => {
     const whose = holderOf(await event.target.files[0].arrayBuffer());
@@ -3398,13 +3409,14 @@ async function addMany(file, list, again) {
   const all = registrationsOf(await file.text());
   if (all === null) { list.replaceChildren(h(\"li\", { class: \"bad\" }, h(\"span\", {}, say.csvHead(HEAD.join(\",\"))))); return; }
   let added = 0;
-  const items = all.map((one) => list.appendChild(h(\"li\", {}, h(\"span\", {}, say.waiting(`${one.driver} ${one.name}`)))));
+  const waiting = (one) => h(\"li\", {}, h(\"span\", {}, telling((who) => say.waiting(`${one.driver} ${who}`), one.name)));
+  const items = all.map((one) => list.appendChild(waiting(one)));
   for (const [k, one] of all.entries()) {
     const { status, line } = await register(one).catch(() => ({ status: 0, line: \"\" }));
     const isAdded = status === 201;
     added += isAdded ? 1 : 0;
     items[k].className = isAdded ? \"good\" : \"bad\";
-    items[k].replaceChildren(h(\"span\", {}, `${one.driver} ${one.name}: `,
+    items[k].replaceChildren(h(\"span\", {}, `${one.driver} `, written(one.name), \": \",
       isAdded ? say.isAdded : isUnsure(status) ? say.unsureDone : refusal(status, line)));
   }
   manyResults = [...items];
@@ -3425,7 +3437,7 @@ function manyForm(again) {
 
 /** @type {(again: (notice?: Node) => void) => import(\"./office.js\").Column[]} */
 const columnsOf = (again) => [
-  { head: say.colDriver, cell: (one) => [h(\"bdi\", {}, one.name), h(\"small\", {}, ` ${one.number}`)] },
+  { head: say.colDriver, cell: (one) => [written(one.name), h(\"small\", {}, ` ${one.number}`)] },
     { head: say.card, cell: (one) => cardOf(one.holder) },
   { head: say.base, kind: \"when\", cell: (one) => utcDay(minuteOf(one.base)) }, { head: say.cards, kind: \"num\", cell: (one) => one.files },
   { head: say.newKey, cell: (one) => button(say.newKey, () => changeKey(one, again),
@@ -3450,7 +3462,7 @@ export async function page({ signal, again }) {
 /// The text at `/office/start.js`.
 fn office_start_js() -> &'static str {
     "// The start page: all drivers, most urgent first. What is left comes later, into cells that are there already.
-import { h } from \"/shared/page.js\";
+import { h, written } from \"/shared/page.js\";
 import { DAY, localText, monthStep, now, textOf, tomorrow } from \"/shared/time.js\";
 import { daysSince, length, localMoment, localTime, monthName, say } from \"/shared/say.js\";
 import { readForecast, readStanding } from \"/shared/tables.js\";
@@ -3522,7 +3534,7 @@ function columnsOf(leftCells) {
     cell: (row) => (row[name] ? link(`/drivers/${row.driver}/${which}`, String(row[name])) : \"–\"),
   });
   return [
-    { head: say.colDriver, cell: (row) => [link(`/drivers/${row.driver}/${month}`, row.name), h(\"small\", {}, ` ${row.driver}`)] },
+    { head: say.colDriver, cell: (row) => [link(`/drivers/${row.driver}/${month}`, written(row.name)), h(\"small\", {}, ` ${row.driver}`)] },
     { head: say.colFirst, kind: \"first\", cell: (row) => link(row.task.to, h(\"span\", {}, row.task.text),
       { class: `todo ${row.task.level}` }) },
     { head: say.colHeld, kind: \"when\", kindOf: (row) => (row.held === null ? \"quiet\" : \"\"), cell: heldCell },
@@ -3576,8 +3588,8 @@ function sums(rows, show) {
 /** @type {(rows: Standing[]) => import(\"./office.js\").Content} the drivers of whom nothing has been known for long, folded */
 const goneList = (rows) => (rows.length === 0 ? null : h(\"details\", { class: \"gone\" }, h(\"summary\", {}, say.gone(rows.length, GONE)),
   h(\"p\", { class: \"note\" }, say.goneWhy),
-  h(\"ul\", {}, rows.map((row) => h(\"li\", {}, link(`/drivers/${row.driver}/${thisMonth()}`, row.name), ` (${row.driver}) · ${say.colHeld} `,
-    localMoment(row.held, true))))));
+  h(\"ul\", {}, rows.map((row) => h(\"li\", {}, link(`/drivers/${row.driver}/${thisMonth()}`, written(row.name)),
+    ` (${row.driver}) · ${say.colHeld} `, localMoment(row.held, true))))));
 
 /** @type {(context: import(\"./office.js\").Context) => Promise<import(\"./office.js\").Content>} */
 export async function page({ signal, again }) {
@@ -3842,6 +3854,9 @@ export const WORDS = {
   lookAgain: \"Noch einmal nachsehen\",
   otherEntries: \"Die Verbindung brach ab, und inzwischen kamen andere Einträge hinzu. Das Formular zeigt, was noch unbekannt ist; die Einträge zeigen das Übrige.\",
   unsureEntries: \"Es ist nicht bekannt, ob das gespeichert wurde. Bevor das bekannt ist, kann nichts gesendet werden.\",
+  leaveGaps: \"Hier sind Stunden ausgefüllt und nicht gespeichert.\",
+  leaveUnsaved: \"Verlassen, ohne zu speichern\",
+  stay: \"Bleiben\",
 
   // Entries
   entriesHelp: \"Stunden, die von Hand eingetragen wurden. Ein zurückgezogener Eintrag bleibt in der Liste und gibt nichts.\",
@@ -4097,6 +4112,9 @@ export const WORDS = {
   lookAgain: \"Look again\",
   otherEntries: \"The connection broke, and other entries were added meanwhile. The form shows what is still unknown; the entries show the rest.\",
   unsureEntries: \"It isn't known whether this was saved. Before that is known, nothing can be sent.\",
+  leaveGaps: \"Hours are filled in here and not saved.\",
+  leaveUnsaved: \"Leave without saving\",
+  stay: \"Stay\",
 
   // Entries
   entriesHelp: \"Hours that were entered by hand. An entry that is withdrawn stays listed, and gives nothing.\",
@@ -4193,12 +4211,13 @@ h1 {
   margin: 0;
 }
 
-/* A name may have many signs above each other: it covers nothing else. */
-h1 bdi {
+/* What somebody wrote (page.js): signs that turn the direction of writing, end lines, or pile up, change nothing beside it. */
+bdi {
   display: inline-block;
   max-width: 100%;
-  overflow: hidden;
-  vertical-align: bottom;
+  overflow: clip;
+  overflow-clip-margin: 2px;
+  text-decoration: inherit;
 }
 
 form h1 {
@@ -5115,6 +5134,16 @@ export function svg(name, attributes = {}, ...children) {
 }
 
 /**
+ * A text that somebody wrote, as a name, an author or a note. It may have signs that turn the direction of writing, end lines or pile up:
+ * they change nothing outside of its element (page.css).
+ * @param {string} text
+ * @returns {HTMLElement}
+ */
+export function written(text) {
+  return h(\"bdi\", {}, text);
+}
+
+/**
  * The element with an id.
  * @param {string} id
  * @returns {any} the element, or null
@@ -5193,8 +5222,15 @@ function change(by) {
  * @typedef {{method?: string, body?: BodyInit, signal?: AbortSignal, key?: string, wait?: (seconds: number) => void}} Options
  */
 
+/** How long a reading waits for its reply, in milliseconds. The service gives a client 30 seconds. */
+const PATIENCE = 35000;
+
+/** Each begins the wait of a reading anew. @type {Set<() => void>} */
+const waits = new Set();
+
 /**
- * A request and its reply.
+ * A request and its reply. The service answers one request after the other, so a reading's wait begins anew whenever another request has
+ * ended. A command has no such end: it may have been done.
  * @param {string} path
  * @param {Options} options
  * @param {(reply: Response) => Promise<T>} take what takes the body
@@ -5202,13 +5238,45 @@ function change(by) {
  * @returns {Promise<T>}
  */
 async function asked(path, { method = \"GET\", body, signal, key: other }, take) {
+  const ending = new AbortController();
+  const end = () => ending.abort();
+  let timer = 0;
+  let isLate = false;
+  const wait = () => {
+    clearTimeout(timer);
+    timer = setTimeout(() => {
+      isLate = true;
+      end();
+    }, PATIENCE);
+  };
+  const stop = () => {
+    clearTimeout(timer);
+    waits.delete(wait);
+  };
   change(1);
   try {
+    signal?.throwIfAborted();
+    signal?.addEventListener(\"abort\", end);
+    if (method === \"GET\") {
+      waits.add(wait);
+      wait();
+    }
     const headers = { \"x-key\": other ?? key() ?? \"\" };
-    return await take(await fetch(path, { method, body, signal, headers, cache: \"no-store\", credentials: \"omit\", redirect: \"error\" }));
+    const reply = await fetch(path, {
+      method, body, signal: ending.signal, headers, cache: \"no-store\", credentials: \"omit\", redirect: \"error\",
+    });
+    stop();
+    return await take(reply);
   } catch (fault) {
+    if (isLate) {
+      throw new Problem(\"isDown\");
+    }
     throw /** @type {Error} */ (fault).name === \"AbortError\" ? fault : new Problem(\"noConnection\");
   } finally {
+    stop();
+    if (!isLate) {
+      waits.forEach((again) => again());
+    }
     change(-1);
   }
 }
@@ -5339,7 +5407,7 @@ import { amountText, both, bothTimes, formal, hm, length, localMoment, localTime
   from \"./say.js\";
 import { DAY, dateOf, offsetText, weekdayOf } from \"./time.js\";
 
-/** @import { Ahead, Breach, CardFile, Day, Debt, Evidence, Range, ShownBreach, Span, Stretch } from \"./read.js\" */
+/** @import { Ahead, Breach, CardFile, Day, Debt, Entry, Evidence, Range, ShownBreach, Span, Stretch } from \"./read.js\" */
 /** @typedef {Range & {cause: string, from: number}} Unseen what isn't examined, why, and from when on it is examined again */
 
 // Breaches
@@ -5395,20 +5463,37 @@ function momentCell(minute, isFormal) {
 }
 
 /**
+ * Whether hours that were entered by hand lie in a line of evidence; in a sum of driving, whether driving does. A card file may have given
+ * the same hours: the archive doesn't tell. Of a rest of which one end isn't known, the minute at the other end counts.
+ * @param {Evidence} line
+ * @param {Entry[]} entries
+ * @returns {boolean}
+ */
+function isByHand({ word, start, past, day = NaN, total, isAtRest }, entries) {
+  const isSum = word === \"date\" || (word === \"week\" && total !== undefined);
+  const known = isSum || isAtRest ? [day, day + (word === \"date\" ? DAY : 7 * DAY)]
+    : [start ?? (past ?? NaN) - 1, past ?? (start ?? NaN) + 1];
+  return entries.some((one) =>
+    one.state === \"kept\" && (!isSum || one.activity === \"drive\") && one.start < known[1] && known[0] < one.past);
+}
+
+/**
  * A line of evidence as a row: what it is, from, to, length, and the sum or a remark.
  * @param {Breach} breach
  * @param {Evidence} line
  * @param {boolean} isFormal
+ * @param {Entry[]} entries
  * @returns {HTMLElement}
  */
-function evidenceRow(breach, line, isFormal) {
+function evidenceRow(breach, line, isFormal, entries) {
   const limit = LIMITS.get(breach.kind);
   const isOver = limit !== undefined && line.word === \"drive\" && (line.total ?? 0) > limit;
   const remarks = remarksOf(line);
   const isDay = line.day !== undefined && line.word !== \"reduced\";
   const first = isDay ? [shortUtcDay(/** @type {number} */ (line.day))] : momentCell(line.start ?? line.limit ?? line.start, isFormal);
   const last = remarks.length > 0 ? remarks.join(\", \") : line.total === undefined ? \"\" : hm(line.total);
-  return h(\"tr\", { class: isOver ? \"over\" : null }, h(\"th\", { scope: \"row\" }, say.ev[line.word]),
+  return h(\"tr\", { class: isOver ? \"over\" : null },
+    h(\"th\", { scope: \"row\" }, say.ev[line.word], isByHand(line, entries) ? h(\"i\", { class: \"hand\" }, ` (${say.byHand})`) : null),
     h(\"td\", {}, first),
     h(\"td\", {}, isDay ? momentCell(line.limit, isFormal) : momentCell(line.past, isFormal)),
     h(\"td\", { class: \"num\" }, typeof line.length === \"number\" ? hm(line.length) : \"\"),
@@ -5432,15 +5517,17 @@ function shownEvidence({ kind, since, evidence }) {
 /**
  * What shows a breach, as a table.
  * @param {ShownBreach} breach
- * @param {boolean} [isFormal] whether times are UTC first, as in a letter
+ * @param {boolean} isFormal whether times are UTC first, as in a letter
+ * @param {Entry[]} entries
  * @returns {HTMLElement}
  */
-export function evidenceTable(breach, isFormal = false) {
+function evidenceTable(breach, isFormal, entries) {
   const heads = (isFormal ? say.evHeadFormal : say.evHead).map((/** @type {string} */ one, /** @type {number} */ at) =>
     h(\"th\", { scope: \"col\", class: at === 3 ? \"num\" : null }, one));
-  return h(\"div\", { class: \"wide\" }, h(\"table\", { class: \"evidence\" },
-    h(\"thead\", {}, h(\"tr\", {}, heads)),
-    h(\"tbody\", {}, shownEvidence(breach).map((line) => evidenceRow(breach, line, isFormal)))));
+  const rows = shownEvidence(breach).map((line) => evidenceRow(breach, line, isFormal, entries));
+  const hasHand = rows.some((row) => row.querySelector(\".hand\"));
+  return h(\"div\", { class: \"wide\" }, h(\"table\", { class: \"evidence\" }, h(\"thead\", {}, h(\"tr\", {}, heads)), h(\"tbody\", {}, rows)),
+    hasHand ? h(\"p\", { class: \"note\" }, say.byHandHelp) : null);
 }
 
 /**
@@ -5473,15 +5560,15 @@ function sentenceOf(breach) {
 /**
  * A breach: its sentence, when, by which Article, and what shows it.
  * @param {ShownBreach} breach
- * @param {{open?: boolean, formalTimes?: boolean, number?: number | null}} [options]
+ * @param {{entries: Entry[], open?: boolean, formalTimes?: boolean, number?: number | null}} options
  * @returns {HTMLElement}
  */
-export function breachItem(breach, { open = false, formalTimes = false, number = null } = {}) {
+export function breachItem(breach, { entries, open = false, formalTimes = false, number = null }) {
   const { kind, at, since, evidence } = breach;
   const moment = formalTimes ? formal : both;
   const article = say.article(ARTICLES[kind], kind);
   const counted = `${say.since} ${moment(since)}`;
-  const table = evidenceTable(breach, formalTimes);
+  const table = evidenceTable(breach, formalTimes, entries);
   const limits = (/** @type {string} */ text) => h(\"p\", { class: \"note limits\" }, text);
   const folded = h(\"details\", { open }, h(\"summary\", {}, say.evidence), h(\"p\", { class: \"note\" }, `${counted} · ${article}`), table);
   return h(\"li\", { class: `breach${evidence.length < 13 ? \" short\" : \"\"}`, id: `breach-${kind}-${at}` },
@@ -7188,6 +7275,8 @@ export const WORDS = {
   inWeeks: (w) => `kann zählen für die Woche ab ${w}`,
   room: (l) => `${l} konnten ausgleichen`,
   atRest: \"durchgehend Ruhe\",
+  byHand: \"von Hand\",
+  byHandHelp: \"Von Hand: zum Teil oder ganz von Hand eingetragen.\",
 
   // The chart, and the days in numbers
   chart: \"Diagramm\",
@@ -7330,6 +7419,8 @@ export const WORDS = {
   inWeeks: (w) => `may count for the week from ${w}`,
   room: (l) => `${l} could make up`,
   atRest: \"at rest throughout\",
+  byHand: \"by hand\",
+  byHandHelp: \"By hand: entered by hand, in part or whole.\",
 
   // The chart, and the days in numbers
   chart: \"Chart\",
