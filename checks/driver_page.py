@@ -711,9 +711,9 @@ def faults(page: Page, address: str) -> Comparisons:
 
 
 def silence(page: Page) -> Comparisons:
-    """Readings that get no reply: 35 seconds after the last reply the page ends them all, by waits that are 20 times as short."""
+    """Readings that get no reply: 35 seconds after the last reply the page ends them all, by waits that are a tenth as long."""
     sign_in(page, "anna-key-1")
-    page.run(f"""window.hurry = 20; window.last = 0; window.ended = []; window.fetch = async (path, options) => {{
+    page.run(f"""window.hurry = 10; window.last = 0; window.ended = []; window.fetch = async (path, options) => {{
         if (/debts|why/.test(path)) {{
             await new Promise((_, end) => options.signal.addEventListener("abort", () => {{
                 window.ended.push(performance.now() - window.last);
@@ -727,7 +727,7 @@ def silence(page: Page) -> Comparisons:
     }}; {RENEW} document.querySelector("#choose").requestSubmit(); null""")
     page.until(f"""{MESSAGE} !== "" """)
     told = page.run(f"""[{MESSAGE}, document.querySelector("#again").textContent, window.ended.length,
-        window.ended.every((one) => one > 1749)]""")
+        window.ended.every((one) => one > 3499)]""")
     yield "readings without a reply", told, [DOWN, "Try again", 2, True]
     page.run("window.fetch = window.kept; window.hurry = 1; document.querySelector('#again').click(); null")
     yield "then they are asked for again", page.until("""!document.querySelector("#hours").hidden"""), True

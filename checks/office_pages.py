@@ -737,24 +737,24 @@ def faults(office: Office) -> Comparisons:
 
 
 def silence(office: Office) -> Comparisons:
-    """A reading that gets no reply: after 35 seconds the page ends it, by waits that are 20 times as short. Readings that are slow but come
+    """A reading that gets no reply: after 35 seconds the page ends it, by waits that are a fifth as long. Readings that are slow but come
     are waited for."""
     pages = office.site.pages
 
     def slow(told: bytes) -> bytes:
         """A reply that comes late."""
-        time.sleep(1.25)
+        time.sleep(4.5)
         return told
 
     office.go("/", "table.cards")
-    office.run("globalThis.hurry = 20")
-    for path in ("files", "entries", "sheet"):
+    office.run("globalThis.hurry = 5")
+    for path in ("files", "entries"):
         pages.fail(f"GET /drivers/{CHANGED}/{path}", slow)
     office.go(f"/drivers/{CHANGED}/{MONTH_BEFORE}", ".chart")
-    yield "replies after 25 seconds each", office.text("#title").startswith(MARKUP), True
+    yield "two replies after 22 seconds each", office.text("#title").startswith(MARKUP), True
     office.run("globalThis.hurry = 1")
     office.go("/people", "table.cards")
-    office.run("globalThis.hurry = 20")
+    office.run("globalThis.hurry = 5")
     pages.fail(f"GET /drivers/{CHANGED}/spans", "never")
     office.go(f"/drivers/{CHANGED}/{MONTH_BEFORE}", ".box.bad")
     yield "no reply in 35 seconds", office.texts("#content .box, #content button"), [
