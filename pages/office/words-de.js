@@ -36,7 +36,6 @@ export const WORDS = {
   stopped: "Angehalten. Nichts wurde geändert.",
   noPage: "Diese Seite gibt es nicht.",
   askAgain: (n) => `Zu viele Anfragen auf einmal. Die Seite wartet ${n} s und fragt dann selbst noch einmal.`,
-  noReply: "Es kam keine Antwort in der Zeit. Was gespeichert war, ist nicht verloren. Versuchen Sie es noch einmal.",
   changing: "Das Archiv hat sich geändert, während diese Seite gelesen wurde. Versuchen Sie es noch einmal.",
   pageFault: "Diese Seite hat einen Fehler. Nichts wurde geändert.",
   idle: "Sie sind abgemeldet: Eine halbe Stunde lang wurde keine Taste gedrückt und nichts angeklickt.",

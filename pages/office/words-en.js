@@ -36,7 +36,6 @@ export const WORDS = {
   stopped: "Stopped. Nothing was changed.",
   noPage: "There is no such page.",
   askAgain: (n) => `Too many requests at once. The page waits ${n} s, and asks again by itself.`,
-  noReply: "No reply came in time. Nothing that was saved is lost. Try again.",
   changing: "The archive changed while this page was read. Try again.",
   pageFault: "This page has a fault. Nothing was changed.",
   idle: "You are logged out: for half an hour no key was pressed and nothing was clicked.",
