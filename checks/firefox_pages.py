@@ -126,9 +126,9 @@ def quiet(driven: Browser, site: Site) -> Comparisons:
     driven.settle()
     events = driven.events
     yield "messages of the browser", [one["text"] for name, one in events if name == "log.entryAdded"], []
-    # The start page gives up its forecast when it is left.
+    # A page gives up its readings when it is left.
     failed = [(one["request"]["url"].split("/")[3], one["errorText"]) for name, one in events if name == "network.fetchError"]
-    yield "requests that failed", [one for one in failed if one != ("forecast", "NS_BINDING_ABORTED")], []
+    yield "requests that failed", [one for one in failed if one[1] != "NS_BINDING_ABORTED"], []
     replies: list[Any] = [one["response"] for name, one in events if name == "network.responseCompleted"]
     yield "statuses but 200", [one["status"] for one in replies if one["url"].startswith("http") and one["status"] != 200], [403, 403]
     hosts = {one["request"]["url"].split("/")[2] for name, one in events if name == "network.beforeRequestSent"
