@@ -85,9 +85,10 @@ def two_tabs(office: Office[Page], other: Office[Page]) -> Comparisons:
     rows = squeezed(office.table("#content table"))
     for number in range(ROUNDS):
         for tab in (office, other):
-            tab.page.begin(f"{office.site.direct('office')}?{number}")
+            tab.run("(globalThis.isOld = true)")
+            tab.page.reload()
         for name, tab in (("first", office), ("second", other)):
-            tab.until(f"location.search === '?{number}' && {IS_FILLED}")
+            tab.until(f"globalThis.isOld === undefined && {IS_FILLED}")
             yield f"the rows of the {name} tab, {number}", squeezed(tab.table("#content table")), rows
     other.click("#log-out")
     yield "the second tab is left", other.until("document.querySelector('#key') !== null") and other.run("sessionStorage.length"), 0
@@ -125,7 +126,9 @@ def quiet(driven: Browser, site: Site) -> Comparisons:
     driven.settle()
     events = driven.events
     yield "messages of the browser", [one["text"] for name, one in events if name == "log.entryAdded"], []
-    yield "requests that failed", [one["request"]["url"] for name, one in events if name == "network.fetchError"], []
+    # A page gives up its readings when it is left.
+    failed = [(one["request"]["url"].split("/")[3], one["errorText"]) for name, one in events if name == "network.fetchError"]
+    yield "requests that failed", [one for one in failed if one[1] != "NS_BINDING_ABORTED"], []
     replies: list[Any] = [one["response"] for name, one in events if name == "network.responseCompleted"]
     yield "statuses but 200", [one["status"] for one in replies if one["url"].startswith("http") and one["status"] != 200], [403, 403]
     hosts = {one["request"]["url"].split("/")[2] for name, one in events if name == "network.beforeRequestSent"

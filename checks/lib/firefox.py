@@ -215,9 +215,9 @@ class Page:
         """Loads an address, and waits until it is loaded."""
         self.call("browsingContext.navigate", url=address, wait="complete")
 
-    def begin(self, address: str) -> None:
-        """Begins to load an address."""
-        self.call("browsingContext.navigate", url=address, wait="none")
+    def reload(self) -> None:
+        """Begins to load the page again."""
+        self.call("browsingContext.reload", wait="none")
 
     def act(self, kind: str, actions: list[dict[str, Any]]) -> None:
         """Does what keys or a mouse do."""

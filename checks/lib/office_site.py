@@ -238,7 +238,8 @@ class Site:
         """Registers all drivers, and imports their card files. Returns the statuses of the replies."""
         bodies = [("/drivers", f"driver,holder,key,base,name\n{number},{holder_of(number)},{key_of(number)},{base},{name}\n".encode())
                   for number, name, base, _ in [*DRIVERS, LATER]]
-        bodies += [("/cards/both", card(holder_of(number), "Some Body", spans)) for number, _, _, files in [*DRIVERS, LATER] for spans in files]
+        bodies += [("/cards/both", card(holder_of(number), "Some Body", spans)) for number, _, _, files in [*DRIVERS, LATER]
+                   for spans in files]
         return [self.ask(path, posted=body)[0] for path, body in bodies]
 
     def text(self, path: str, key: str = OFFICE) -> str:
