@@ -441,10 +441,8 @@ class Month:
             start, past, length, what, more = match.groups()
             if what == "in":
                 more = ", ".join(day_text(language, instant(day)) for day in more.split(" "))
-            elif what == "portion":
+            elif what in ("portion", "room"):
                 more = "0:00" if more.startswith("-") else more
-            elif what == "room":
-                more = more.replace("-", "\u2212")  # a minus sign, as it is printed
             remark = "" if what is None else said[{"portion": "within"}.get(what, what)].format(more)
             return [name, moment(start), moment(past), "" if length == "-" else length, remark]
         if match := re.fullmatch(r"(\d.{15}) (\d.{15}) (\S+) (\S+)", rest):

@@ -33,7 +33,7 @@ function remarksOf(line) {
     remarks.push(say.within(hm(Math.max(0, line.portion))));
   }
   if (line.room !== undefined) {
-    remarks.push(say.room(hm(line.room)));
+    remarks.push(say.room(hm(Math.max(0, line.room))));
   }
   if (line.weeks !== undefined) {
     remarks.push(say.inWeeks(line.weeks.map(utcDay).join(", ")));

@@ -185,7 +185,7 @@ fn driver() -> &'static str {
 <!-- driver.js fills each element that has the attribute data-text with the sentence of that name. -->
 <body class=\"driver\">
 <header class=\"bar\">
-  <span class=\"brand\" data-text=\"yourHours\"></span>
+  <span class=\"brand\" data-text=\"yourHours\">tacho</span>
   <div class=\"tools\">
     <select id=\"language\" class=\"small\"></select>
     <button type=\"button\" id=\"log-out\" class=\"small\" data-text=\"logOut\" hidden></button>
@@ -5433,7 +5433,7 @@ function remarksOf(line) {
     remarks.push(say.within(hm(Math.max(0, line.portion))));
   }
   if (line.room !== undefined) {
-    remarks.push(say.room(hm(line.room)));
+    remarks.push(say.room(hm(Math.max(0, line.room))));
   }
   if (line.weeks !== undefined) {
     remarks.push(say.inWeeks(line.weeks.map(utcDay).join(\", \")));
