@@ -2231,6 +2231,13 @@ tbody tr:hover {
   font-weight: 600;
 }
 
+/* Forced colours draw a transparent line too, so only that of the page that is shown may have one. */
+@media (forced-colors: active) {
+  .bar nav a:not([aria-current]) {
+    border-bottom-color: Canvas;
+  }
+}
+
 .row.end {
   align-items: end;
 }
@@ -4504,6 +4511,11 @@ tbody th {
 
 .tight {
   width: auto;
+}
+
+/* The days that haven't come: their name is long, and leaves no room for numbers on a phone. */
+.tight .later > th {
+  white-space: normal;
 }
 
 .tight .sunday > * {
