@@ -23,7 +23,7 @@ from typing import Any
 
 from inputs import random_cards
 from inputs.random_commands import hours_csv
-from lib import advice, counting, office_lines, office_rows, old_archive, pools, programs, rules, seeds
+from lib import advice, charts, counting, office_lines, office_rows, old_archive, pools, programs, rules, seeds
 from lib.advice import without_advice, without_known
 from lib.archive import of_tables
 from lib.commands import COMMANDS as TABLE
@@ -475,6 +475,24 @@ def of_carry_faults(program: str) -> counting.Comparisons:
         yield from of_refused_carry(desk, "once more", new, "2024-03-05", fault_of("S12 store failed", 3, new, TAKEN))
 
 
+# Names that end lines for some programs, turn the direction of writing, pile up signs, are markup, or are a formula of a spreadsheet.
+ODD_NAMES = ["Ann\u2028Berg\u2029", "Ann\u0085Berg", "\u202eAnna\u202d \u2066Berg\u2069", f"{31 * chr(0x301)}e", "<b>Anna</b> & 'Co'",
+             "]]></title><script>", "=1+1", "\ufeffAnna\ufffe\uffff"]
+
+
+def of_odd_names(program: str) -> counting.Comparisons:
+    """The comparisons of all that prints a driver's name. The chart is XML too, with the name in its title."""
+    for name in ODD_NAMES:
+        with tempfile.TemporaryDirectory() as folder:
+            desk = Desk(program, folder)
+            row = f"17,{office_rows.HOLDER},anna-key-1,2024-03-04,{name}\n"
+            desk.prepare([(["register"], (office_rows.DRIVER_HEAD + row).encode()), *WITH_DAY[1:]])
+            for words in [line.split(" ") for line in READINGS]:
+                yield f"{name!r}: {words}", *desk.both(words)
+            title = charts.lines_of(desk.run(["chart", "17", "2024-03"])[0]).split(", 2024-03\n")[0]
+            yield f"{name!r}: the title of the chart", title, "17 " + re.sub("[\ufffe\uffff]", "\ufffd", name)
+
+
 def of_names_that_meet(program: str) -> counting.Comparisons:
     """The comparisons of a new archive one of whose four files would be the old archive."""
     for ending in ENDINGS[1:]:
@@ -862,7 +880,7 @@ def comparisons(program: str) -> counting.Comparisons:
     questions += [(of_carry, program, name, carry) for name, carry in office_rows.CARRIES.items()]
     questions += [(of_rows_carried, program, name) for name in ROWS_OF_NEW]
     questions += [(part, program) for part in [
-        of_carry_faults, of_names_that_meet, of_carry_rights, of_carry_devices, of_log, of_nobody]]
+        of_carry_faults, of_odd_names, of_names_that_meet, of_carry_rights, of_carry_devices, of_log, of_nobody]]
     questions += [(of_sentences,)]
     questions += [(of_seed, program, seed) for seed in range(SEEDS)]
     questions += [(of_carry_seed, program, seed) for seed in range(CARRY_SEEDS)]
