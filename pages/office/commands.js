@@ -7,7 +7,9 @@ const PAUSE = 4, TURNS = 15;
 
 /** A command: the status and the line of its reply. After a wrong key the page asks for the key; too many requests aren't a fault, since
  *  the archive got none.
- * @type {(path: string, body?: string | Blob) => Promise<{ status: number, line: string }>} */
+ * @param {string} path
+ * @param {string | Blob} [body]
+ * @returns {Promise<{ status: number, line: string }>} */
 export async function command(path, body) {
   for (let turn = 1; ; turn += 1) {
     const { status, text } = await busy(send(path, { method: "POST", body }));
@@ -32,7 +34,7 @@ export const codeOf = (line) => /^([A-Z]\d+) /.exec(line)?.[1];
 /** What is said of a refusal, with its line below it, for a telephone call.
  * @type {(status: number, line: string) => import("/shared/page.js").Child} */
 export const refusal = (status, line) =>
-  [say.refusals[codeOf(line)] ?? say.refusedOther, h("small", { class: "raw" }, ` ${line || `HTTP ${status}`}`)];
+  [say.refusals[codeOf(line) ?? ""] ?? say.refusedOther, h("small", { class: "raw" }, ` ${line || `HTTP ${status}`}`)];
 
 /** @type {(id: string, label: string, attributes: Record<string, unknown>) => HTMLElement} a field with its label */
 export const field = (id, label, attributes) =>

@@ -16,21 +16,20 @@ atLogOut.push(() => { chosen = null; });
 /** @type {(again: () => void) => HTMLElement} */
 function startForm(again) {
   const moment = momentField("start-at", say.startAt, startOfDriving());
-  const submit = (event) => {
+  return h("form", { class: "row end no-print", onsubmit: (event) => {
     event.preventDefault();
     if (moment.minute() !== null) { chosen = moment.minute(); again(); }
-  };
-  return h("form", { class: "row end no-print", onsubmit: submit }, moment.node, h("button", {}, say.show));
+  } }, moment.node, h("button", {}, say.show));
 }
 /** @type {() => number} */
 const startOfDriving = () => chosen ?? tomorrow();
 
-/** How many days before the start the last known hour is; null where none is known.
- * @type {(row: Forecast) => number | null} */
-const staleOf = (row) => (row.held === null || row.ahead === null ? null : Math.floor((row.ahead.start - row.held) / DAY));
+/** How many days before the start the last known hour is; Infinity where nothing can be said.
+ * @type {(row: Forecast) => number} */
+const staleOf = (row) => (row.held === null || row.ahead === null ? Infinity : Math.floor((row.ahead.start - row.held) / DAY));
 /** Whether a row says anything.
  * @type {(row: Forecast) => boolean} */
-const isTold = (row) => staleOf(row) !== null && staleOf(row) <= STALE;
+const isTold = (row) => staleOf(row) <= STALE;
 
 /** @type {(value: number | null, least: number) => string} */
 const low = (value, least) => (value !== null && value < least ? "warn-text" : "");
@@ -62,21 +61,22 @@ const twoCell = (left, row) => (left.isYoung
 /** @type {() => import("./office.js").Column[]} */
 function columns() {
   const [driver, held, ...heads] = say.leftCols;
+  /** @type {[(left: any, row: any) => import("./office.js").Content, (left: any, row: any) => string][]} */
   const cells = [
-    [(left) => drivingCell(left), ""],
+    [drivingCell, () => ""],
     [(left) => bare(left.now), (left) => (left.now === BREAK ? "quiet" : low(left.now, BREAK))],
-    [restCell, ""],
+    [restCell, () => ""],
     [(left) => bare(left.week), (left) => low(left.week, LOW)],
     [twoCell, (left) => low(left.two, LOW)],
     [(left) => (left.weekly === null ? "–" : localMoment(left.weekly)),
       (left, row) => (left.weekly !== null && left.weekly - row.ahead.start < DAY ? "warn-text" : "")],
-    [(left, row) => `${row.ahead.reduced}/3 · ${row.ahead.extended}/2`, "quiet"],
+    [(_, row) => `${row.ahead.reduced}/3 · ${row.ahead.extended}/2`, () => "quiet"],
   ];
   return [{ head: driver, cell: (row) => [link(`/drivers/${row.driver}/left`, written(row.name)), h("small", {}, ` ${row.driver}`)] },
     { head: held, kind: "when", cell: heldCell },
     ...cells.map(([cell, kind], k) => ({
-      head: heads[k], kind: "num", kindOf: (row) => (typeof kind === "string" ? kind : kind(leftOf(row.ahead), row)),
-        cell: (row) => cell(leftOf(row.ahead), row),
+      head: heads[k], kind: "num", kindOf: (/** @type {any} */ row) => kind(leftOf(row.ahead), row),
+      cell: (/** @type {any} */ row) => cell(leftOf(row.ahead), row),
     }))];
 }
 

@@ -26,10 +26,10 @@ function sender() {
 /** Where the letter's hours come from.
  * @type {(files: any[], entries: any[], program: string) => HTMLElement} */
 function sourceLine(files, entries, program) {
-  const fileText = (file) => `${file.number} (SHA-256 ${file.digest.slice(0, DIGITS)}…)`;
-  const entryText = (one) => `${one.number} (${say[one.activity]}, ${formal(one.start)} ${say.to} ${formal(one.past)})`;
-  return h("p", { class: "note" }, say.letterFiles(files.map(fileText).join(", ") || "–", program),
-    ` ${say.foot}`, entries.length ? ` ${say.letterHand} ${entries.map(entryText).join("; ")}.` : "");
+  const fileTexts = files.map((file) => `${file.number} (SHA-256 ${file.digest.slice(0, DIGITS)}…)`);
+  const entryTexts = entries.map((one) => `${one.number} (${say[one.activity]}, ${formal(one.start)} ${say.to} ${formal(one.past)})`);
+  return h("p", { class: "note" }, say.letterFiles(fileTexts.join(", ") || "–", program),
+    ` ${say.foot}`, entries.length ? ` ${say.letterHand} ${entryTexts.join("; ")}.` : "");
 }
 
 /** The sheet that is printed, in the language that is set. `ofMonth` are the month's entries; evidence may be of earlier months.
@@ -37,7 +37,7 @@ function sourceLine(files, entries, program) {
  *  language: string }) => HTMLElement} */
 function sheetOf({ person, ready, files, entries, ofMonth, program, month, language }) {
   const { field, printed } = sender();
-  const day = (minute) => localMoment(minute, true).slice(0, -6);
+  const day = (/** @type {number} */ minute) => localMoment(minute, true).slice(0, -6);
   return h("article", { class: "sheet", lang: language },
     h("div", { class: "address" }, h("div", {}, field, printed), h("div", {}, `${say.date2}: ${day(now())}`)),
     h("p", {}, written(person.name), h("br"), h("span", { class: "note" }, `${say.cardNo}: ${cardOf(person.holder)}`)),
@@ -53,11 +53,11 @@ function sheetOf({ person, ready, files, entries, ofMonth, program, month, langu
 
 /** @type {(context: import("./office.js").Context) => Promise<import("./office.js").Content>} */
 export async function page({ signal, args: [driver, month], again }) {
-  const at = (what) => ask(`/drivers/${driver}${what}`, signal);
+  const at = (/** @type {string} */ what) => ask(`/drivers/${driver}${what}`, signal);
   const [person] = readDrivers(await at("")), all = readWhy(await at(`/why/${month}`)), files = readFiles(await at("/files")),
     entries = readEntries(await at("/entries"));
   const program = readVersion(await ask("/version", signal)), [first, past] = rangeOf(month);
-  const isWithin = (one) => one.start < past && first < one.past;
+  const isWithin = (/** @type {import("/shared/read.js").Range} */ one) => one.start < past && first < one.past;
   const ready = all.filter((one) => !isUnfinished(one)), language = languageOf(driver);
   const choose = languageField(language, (one) => { localStorage.setItem(LANGUAGE + driver, one); again(); }, { id: "letter-language" });
   return [h("div", { class: "no-print" },

@@ -269,7 +269,7 @@ export function notExaminedBox(stretches, range, end = 0, gaps = [], form = null
 
 // The chart
 
-/** The heights of the bars, of 24: they tell the activities apart without colours. @type {Record<string, number>} */
+/** @type {Record<string, number>} The heights of the bars, of 24: they tell the activities apart without colours. */
 const HEIGHTS = { rest: 7, available: 12, work: 17, drive: 24 };
 const HOURS = [0, 6, 12, 18, 24];
 

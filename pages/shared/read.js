@@ -52,7 +52,7 @@ const ACTIVITY = "(rest|available|work|drive)";
 // Of a name, an author or a note. Their lengths are limited in bytes; see `textIn`.
 const PLAIN = String.raw`([^\x00-\x1f\x7f",]*)`;
 
-/** The Article of each kind of breach. @type {Record<string, string>} */
+/** @type {Record<string, string>} The Article of each kind of breach. */
 export const ARTICLES = {
   B1: "7", B2: "8(2)", B3: "8(4)", B4: "6(1)", B5: "6(1)", B6: "6(2)", B7: "6(3)", B8: "8(6)", B9: "8(6)", B10: "8(6b)",
 };
@@ -257,6 +257,7 @@ function horizonOf(line) {
  */
 function stretchesOf(text, itemOf, inOrder) {
   const lines = linesOf(text);
+  /** @type {Array<Stretch<T>>} */
   const made = [];
   must(lines.length > 0);
   for (let at = 0; at < lines.length;) {
@@ -314,7 +315,7 @@ export function readDebts(text) {
  * @param {string} start
  * @param {string} past
  * @param {string} length
- * @returns {Evidence}
+ * @returns {Omit<Evidence, "word">}
  */
 function runOf(start, past, length) {
   const isOpen = start === "-" || past === "-";
@@ -336,7 +337,7 @@ function lengthIn(text, minutes) {
 
 /**
  * The lines of evidence, each under a letter: the word, the rest of the line, and what is made of its parts.
- * @type {Record<string, [string, string, (...parts: string[]) => object]>}
+ * @type {Record<string, [string, string, (...parts: string[]) => Omit<Evidence, "word">]>}
  */
 const LINES = {
   b: ["break", RUN, runOf],
@@ -368,7 +369,7 @@ const LINES = {
 };
 const LINE_FORMS = Object.fromEntries(Object.entries(LINES).map(([letter, [word, rest]]) => [letter, form(`${word} ${rest}`)]));
 
-/** The order of the lines of each rule, by their letters. @type {Record<string, RegExp>} */
+/** @type {Record<string, RegExp>} The order of the lines of each rule, by their letters. */
 const ORDERS = {
   B1: /^b[dr]*d[dr]*b$/, B2: /^ylr*p$/, B3: /^wk+$/, B4: /^yd+$/, B5: /^Wn+d+$/, B6: /^Wt+d+t*$/, B7: /^Dt*(?:td+t*)?Dt*(?:td+t*)?$/,
   B8: /^ww$/, B9: /^f[Wz]+i*$/, B10: /^Omo*$/,

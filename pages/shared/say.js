@@ -6,7 +6,7 @@ import { DAY, dateOf, localText, minuteOf, textOf, weekdayOf } from "./time.js";
 /** Where the language is kept: in localStorage, since it is no secret and holds for all visits. */
 const PLACE = "tacho.language";
 
-/** The languages that there are, each with its own name. @type {Array<[string, string]>} */
+/** @type {Array<[string, string]>} The languages that there are, each with its own name. */
 export const LANGUAGES = [["en", "English"], ["de", "Deutsch"]];
 
 /**
@@ -31,7 +31,7 @@ async function wordsOf(language) {
 
 let language = firstLanguage();
 
-/** The sentences of the present language. There are none before `ready`. @type {Record<string, any>} */
+/** @type {Record<string, any>} The sentences of the present language. There are none before `ready`. */
 export let say = {};
 
 /** A page waits for this before it shows anything. */

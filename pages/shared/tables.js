@@ -10,12 +10,12 @@ const cell = (form, read) => (text) => {
   if (!form.test(text)) throw new Problem("unreadable");
   return read(text);
 };
-const number = cell(NUMBER, Number), day = cell(DAY, minuteOf), moment = cell(MOMENT, minuteOf), word = (text) => text;
+const number = cell(NUMBER, Number), day = cell(DAY, minuteOf), moment = cell(MOMENT, minuteOf), word = String;
 /** @type {(read: (text: string) => any) => (text: string) => any} a cell that may be empty */
 const orNone = (read) => (text) => (text === "" ? null : read(text));
 
 /** The rows of a text with given columns: how each is named and read.
- * @type {(text: string, columns: Record<string, (text: string) => any>) => Record<string, any>[]} */
+ * @type {(text: string, columns: Record<string, (text: string) => any>) => any[]} */
 function rowsOf(text, columns) {
   const names = Object.keys(columns);
   const [head, ...rows] = text.split("\n");
