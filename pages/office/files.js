@@ -2,9 +2,9 @@
 import { h, listed } from "/shared/page.js";
 import { minuteOf, textOf } from "/shared/time.js";
 import { both, monthName, say } from "/shared/say.js";
-import { cardOf, holderOf, readDrivers } from "/shared/read.js";
+import { cardOf, readDrivers } from "/shared/read.js";
 import { ask, atLogOut, button, confirmed, head, link, proposed, telling, thisMonth, unfinished } from "./office.js";
-import { codeOf, command, isUnsure } from "./commands.js";
+import { codeOf, command, holderOf, isUnsure } from "./commands.js";
 
 const MOST = 262_144, NAME = /\.(ddd|c1b|tgd|esm)$/i, FAULTS_IN_A_ROW = 2;
 

@@ -116,7 +116,8 @@ class GapForm {
   /** @type {(piece: Piece, k: number) => HTMLElement} divides a gap at a local time, or at each midnight */
   splitter(piece, k) {
     const cut = momentField(`cut-${k}`, say.splitAt, null), told = h("span", { class: "warn-text", role: "status" });
-    Object.assign(cut.input, { required: false, min: localText(piece.start).replace(" ", "T"), max: localText(piece.past).replace(" ", "T") });
+    const [min, max] = [piece.start, piece.past].map((one) => localText(one).replace(" ", "T"));
+    Object.assign(cut.input, { required: false, min, max });
     const split = () => {
       const at = cut.minute();
       if (at === null || at <= piece.start || at >= piece.past) { told.textContent = say.splitWithin; return; }

@@ -1,8 +1,9 @@
-// What is left until the limits, for all drivers and for one. Each loads what the other doesn't need.
+// What is left until the limits, for all drivers and for one.
 import { h, written } from "/shared/page.js";
 import { DAY, textOf, tomorrow } from "/shared/time.js";
-import { both, length, localMoment, monthName, say, shortUtcDay } from "/shared/say.js";
-import { leftOf, readAhead, readDebts, readDrivers } from "/shared/read.js";
+import { both, debtsPart, length, localMoment, monthName, say, shortUtcDay } from "/shared/say.js";
+import { readAhead, readDebts, readDrivers } from "/shared/read.js";
+import { leftOf, meters, readForecast } from "/shared/tables.js";
 import { ask, atLogOut, head, link, listTable, momentField, printButton, thisMonth, tool, zoneLine } from "./office.js";
 
 /** @typedef {import("/shared/tables.js").Forecast} Forecast */
@@ -89,7 +90,6 @@ const untold = (rows) => (rows.length === 0 ? null : [h("h2", {}, say.leftUntold
 
 /** @type {(context: import("./office.js").Context) => Promise<import("./office.js").Content>} */
 async function leftAll({ signal, again }) {
-  const { readForecast } = await import("/shared/tables.js");
   const rows = readForecast(await ask(`/forecast/${textOf(startOfDriving()).replace(" ", "/")}`, signal)), told = rows.filter(isTold);
   return [head(`${say.left}: ${localMoment(startOfDriving(), true)}`, printButton()), startForm(again),
     h("p", { class: "box" }, say.leftAssume),
@@ -109,8 +109,8 @@ const comingBox = (breaches) => (breaches.length === 0 ? null : h("div", { class
   h("ul", {}, breaches.map((one) => h("li", {}, say[one.kind](one.amount), " ", both(one.at))))));
 
 /** What a forecast of one driver says.
- * @type {(ahead: import("/shared/read.js").Ahead, meters: (ahead: any) => HTMLElement) => import("./office.js").Content} */
-function toldOf(ahead, meters) {
+ * @type {(ahead: import("/shared/read.js").Ahead) => import("./office.js").Content} */
+function toldOf(ahead) {
   const days = Math.floor((ahead.start - ahead.held) / DAY);
   if (ahead.not) return warning(say.leftCrew);
   if (isNever(ahead)) return warning(say.noLeft);
@@ -122,14 +122,13 @@ function toldOf(ahead, meters) {
 
 /** @type {(context: import("./office.js").Context) => Promise<import("./office.js").Content>} */
 async function leftOne({ signal, args: [driver], again }) {
-  const { debtsPart, meters } = await import("/shared/parts.js");
   const ahead = readAhead(await ask(`/drivers/${driver}/ahead/${textOf(startOfDriving()).replace(" ", "/")}`, signal)),
     [person] = readDrivers(await ask(`/drivers/${driver}`, signal));
   const debts = readDebts(await ask(`/drivers/${driver}/debts`, signal));
   const title = head([written(person.name), `: ${say.left}`], tool(`/drivers/${driver}/${thisMonth()}`, monthName(thisMonth())),
     printButton());
   const held = isNever(ahead) ? "" : ` · ${say.colHeld} ${both(ahead.held)}`;
-  return [title, startForm(again), h("p", {}, h("b", {}, `${say.startAt}: ${both(ahead.start)}`), held), toldOf(ahead, meters),
+  return [title, startForm(again), h("p", {}, h("b", {}, `${say.startAt}: ${both(ahead.start)}`), held), toldOf(ahead),
     h("p", { class: "note" }, say.leftAssume), h("h2", {}, say.debts), debtsPart(debts)];
 }
 

@@ -3,7 +3,7 @@ import { h, written } from "/shared/page.js";
 import { DAY, now, rangeOf } from "/shared/time.js";
 import { formal, languageNow, localMoment, monthName, say, withLanguage } from "/shared/say.js";
 import { cardOf, readDrivers, readEntries, readFiles, readVersion, readWhy } from "/shared/read.js";
-import { breachItem, isUnfinished } from "/shared/parts.js";
+import { breachItem } from "/shared/parts.js";
 import { ask, button, head, languageField, telling, tool } from "./office.js";
 
 const SENDER = "tacho.sender", LANGUAGE = "tacho.letter.", DAYS_TO_ANSWER = 14, DIGITS = 12, ANSWER_LINES = 3;
@@ -11,6 +11,13 @@ const SENDER = "tacho.sender", LANGUAGE = "tacho.letter.", DAYS_TO_ANSWER = 14, 
 /** The language of a driver's letters.
  * @type {(driver: string) => string} */
 const languageOf = (driver) => localStorage.getItem(LANGUAGE + driver) ?? languageNow();
+
+/** Whether what shows a breach ends in time that isn't known: no letter is written from it.
+ * @type {(breach: import("/shared/read.js").ShownBreach) => boolean} */
+function isUnfinished({ kind, evidence }) {
+  const last = evidence.filter((line) => ["break", "rest", "weekly"].includes(line.word)).at(-1);
+  return ["B1", "B2", "B8"].includes(kind) && last !== undefined && last.past === null;
+}
 
 /** @type {() => { field: HTMLElement, printed: HTMLElement }} the sender: a field, and its text as it is printed */
 function sender() {

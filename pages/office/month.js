@@ -1,9 +1,9 @@
 // A driver's month.
 import { Problem, h, written } from "/shared/page.js";
 import { monthStep, now, offsetText, rangeOf, zone } from "/shared/time.js";
-import { monthName, say } from "/shared/say.js";
+import { debtsPart, monthName, say } from "/shared/say.js";
 import { readBreaches, readDebts, readEntries, readFiles, readGaps, readSheet, readSpans, readWhy } from "/shared/read.js";
-import { breachItem, chart, debtsPart, gapsPart, notExaminedBox, sheetTable, unseenOf } from "/shared/parts.js";
+import { breachItem, chart, gapsPart, notExaminedBox, sheetTable, unseenOf } from "/shared/parts.js";
 import { ask, head, link, printButton, tool } from "./office.js";
 
 const TURNS = 3, DRIVE = 3;

@@ -108,7 +108,8 @@ export function momentField(id, label, start) {
     chosen = minutes.indexOf(start);
     which.querySelectorAll("input")[chosen].checked = true;
   }
-  return { input, node: h("div", { class: "field" }, h("label", { for: id }, label), input, which), minute: () => minutes[chosen] ?? null };
+  const node = h("div", { class: "field" }, h("label", { for: id }, label), input, which);
+  return { node, input, minute: () => minutes[chosen] ?? null };
 }
 
 // Requests

@@ -2,9 +2,9 @@
 import { $, h, isAbort, key, written } from "/shared/page.js";
 import { DAY, dateOf, minuteOf, now, weekdayOf } from "/shared/time.js";
 import { say, utcDay } from "/shared/say.js";
-import { cardOf, holderOf, readDrivers } from "/shared/read.js";
+import { cardOf, readDrivers } from "/shared/read.js";
 import { ask, atLogOut, button, confirmed, head, link, listTable, notice, proposed, telling } from "./office.js";
-import { command, field, isUnsure, refusal } from "./commands.js";
+import { command, field, holderOf, isUnsure, refusal } from "./commands.js";
 
 const LETTERS = "abcdefghijkmnopqrstuvwxyzABCDEFGHJKLMNPQRSTUVWXYZ23456789", KEY_LENGTH = 32, BYTES = 256;
 const PLACE = "tacho.driverspage", FIRST_DAY = "2000-01-03", DAYS_BEFORE = 56;
@@ -143,7 +143,8 @@ function addForm(people, again) {
   };
   return h("form", { class: "row end", id: "add", onsubmit: submit },
     h("div", { class: "field" }, h("label", { for: "f-file" }, say.fromFile),
-      h("input", { id: "f-file", type: "file", onchange: (event) => fromFile(event.target.files[0]) }), h("span", { id: "f-file-told", class: "warn-text", role: "status" })),
+      h("input", { id: "f-file", type: "file", onchange: (event) => fromFile(event.target.files[0]) }),
+      h("span", { id: "f-file-told", class: "warn-text", role: "status" })),
     field("f-number", say.number, { type: "number", min: 1, max: 999999, value: Math.max(0, ...people.map((one) => one.number)) + 1 }),
     field("f-name", say.fullName, { value: person?.name ?? "" }),
     field("f-holder", say.card, { pattern: "[0-9a-f]{30}", size: 32, title: say.cardForm, value: person?.holder ?? "" }),
@@ -195,7 +196,8 @@ async function addMany(file, list, again) {
   const all = registrationsOf(await file.text());
   if (all === null) { list.replaceChildren(h("li", { class: "bad" }, h("span", {}, say.csvHead(HEAD.join(","))))); return; }
   let added = 0;
-  const waiting = (/** @type {Registration} */ one) => h("li", {}, h("span", {}, telling((who) => say.waiting(`${one.driver} ${who}`), one.name)));
+  const waiting = (/** @type {Registration} */ one) =>
+    h("li", {}, h("span", {}, telling((who) => say.waiting(`${one.driver} ${who}`), one.name)));
   const items = all.map((one) => list.appendChild(waiting(one)));
   for (const [k, one] of all.entries()) {
     const { status, line } = await register(one).catch(() => ({ status: 0, line: "" }));

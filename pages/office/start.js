@@ -2,8 +2,7 @@
 import { h, listed, written } from "/shared/page.js";
 import { DAY, localText, monthStep, now, textOf, tomorrow } from "/shared/time.js";
 import { daysSince, length, localMoment, localTime, monthName, say } from "/shared/say.js";
-import { readForecast, readStanding } from "/shared/tables.js";
-import { leftOf } from "/shared/read.js";
+import { leftOf, readForecast, readStanding } from "/shared/tables.js";
 import { ask, button, head, link, listRow, listTable, printButton, thisMonth, zoneLine } from "./office.js";
 
 const OVERDUE = 28, SOON = 21, GONE = 56, FEW_DAYS = 10, STALE = 4;

@@ -630,40 +630,6 @@ export function readAhead(text) {
   };
 }
 
-/**
- * What is left, from a forecast: how much driving until the next break, in the day, in the week and in two weeks, and when the daily and
- * the weekly rest have to begin at the latest. Null: no limit is reached.
- * @param {Pick<Ahead, "kinds" | "start" | "from" | "weeks" | "reduced">} ahead
- * @returns {{now: number | null, day: number | null, nine: boolean, week: number | null, two: number | null, rest: number | null,
- *   long: number | null, needsLong: boolean, weekly: number | null, isYoung: boolean, weekDrive: number | null, twoDrive: number}}
- */
-export function leftOf({ kinds, start, from, weeks }) {
-  const left = (/** @type {string} */ kind) => kinds[kind]?.left ?? null;
-  const until = (/** @type {string} */ kind) => kinds[kind]?.until ?? null;
-  const least = (/** @type {Array<number | null>} */ all) => {
-    const known = /** @type {number[]} */ (all.filter((one) => one !== null));
-    return known.length > 0 ? Math.min(...known) : null;
-  };
-  const [ten, nine, rest, long] = [left("B4"), left("B5"), until("B2"), until("B3")];
-  return {
-    now: left("B1"),
-    day: least([ten, nine]),
-    // Whether the two days of the week with more than nine hours are used.
-    nine: nine !== null && (ten === null || nine < ten),
-    week: left("B6"),
-    two: left("B7"),
-    rest,
-    // B3 is reached once the three reduced rests are used: then the rest of eleven hours has to begin in time.
-    long: long ?? (rest === null ? null : rest - 120),
-    needsLong: long !== null && (rest === null || long <= rest),
-    weekly: least([until("B8"), until("B9")]),
-    // What was driven in the week before isn't known.
-    isYoung: from > weekOf(start) - 7 * DAY,
-    weekDrive: weeks.at(-1)?.drive ?? null,
-    twoDrive: weeks.reduce((sum, one) => sum + one.drive, 0),
-  };
-}
-
 // Cards
 
 /** The states of Annex IC, by the first byte of a holder. */
@@ -678,36 +644,4 @@ const STATES = ("- A AL AND ARM AZ B BG BIH BY CH CY CZ D DK E EST F FIN FL FR U
 export function cardOf(holder) {
   const [state, ...signs] = (holder.match(/../g) ?? []).map((pair) => parseInt(pair, 16));
   return `${STATES[state] ?? holder.slice(0, 2)} ${String.fromCharCode(...signs)}..`;
-}
-
-/**
- * A name in a card file: 35 bytes in a code page of ISO 8859.
- * @param {ArrayBuffer} file
- * @param {number} at where the code page stands; the name follows
- * @returns {string}
- */
-function nameIn(file, at) {
-  const page = new DataView(file).getUint8(at);
-  // There are no other parts of ISO 8859.
-  const part = page > 0 && page <= 16 && page !== 12 ? page : 1;
-  return new TextDecoder(`iso-8859-${part}`).decode(new Uint8Array(file, at + 1, 35)).replace(/[\0 ]+$/, "");
-}
-
-/**
- * Whose a card file is, by its EF Identification (0520) of either generation. Nothing is judged by it: the archive reads the file itself.
- * @param {ArrayBuffer} file
- * @returns {{holder: string, name: string} | null}
- */
-export function holderOf(file) {
-  const view = new DataView(file);
-  for (let at = 0; at + 5 <= view.byteLength;) {
-    const [id, kind, size] = [view.getUint16(at), view.getUint8(at + 2), view.getUint16(at + 3)];
-    const start = at + 5;
-    if (id === 0x0520 && (kind === 0 || kind === 2) && size >= 143 && start + 143 <= view.byteLength) {
-      const holder = [...new Uint8Array(file, start, 15)].map((one) => one.toString(16).padStart(2, "0")).join("");
-      return { holder, name: `${nameIn(file, start + 101)} ${nameIn(file, start + 65)}`.trim() };
-    }
-    at = start + size;
-  }
-  return null;
 }

@@ -178,6 +178,7 @@ fn driver() -> &'static str {
 <link rel=\"modulepreload\" href=\"/shared/page.js\">
 <link rel=\"modulepreload\" href=\"/shared/parts.js\">
 <link rel=\"modulepreload\" href=\"/shared/read.js\">
+<link rel=\"modulepreload\" href=\"/shared/tables.js\">
 <link rel=\"modulepreload\" href=\"/shared/time.js\">
 <script type=\"module\" src=\"/shared/say.js\"></script>
 <script type=\"module\" src=\"/driver/driver.js\"></script>
@@ -232,10 +233,11 @@ fn driver_driver_js() -> &'static str {
     "// The driver's page: what is left first, then a month. It asks the archive with the driver's key, and shows the replies. The address after
 // `#` is the month; without one it is the last month that has data.
 import { $, KEY_FORM, Problem, bytes, forget, h, isAbort, keep, key, listed, reading, send, watch, written } from \"/shared/page.js\";
-import { breachItem, chart, debtsPart, gapsPart, meters, notExaminedBox, sheetTable, undivided, unseenOf } from \"/shared/parts.js\";
+import { breachItem, chart, gapsPart, notExaminedBox, sheetTable, unseenOf } from \"/shared/parts.js\";
 import { lengthOf, readAhead, readBreaches, readDebts, readEntries, readFiles, readGaps, readSheet, readSpans, readVersion, readWhy }
   from \"/shared/read.js\";
-import { LANGUAGES, both, languageNow, monthName, ready, say, speak, utcDay } from \"/shared/say.js\";
+import { LANGUAGES, both, debtsPart, languageNow, monthName, ready, say, speak, undivided, utcDay } from \"/shared/say.js\";
+import { meters } from \"/shared/tables.js\";
 import { DAY, dateOf, localText, minuteOf, minutesOfLocal, monthOf, monthStep, nextMorning, now, offsetText, rangeOf, textOf, zone }
   from \"/shared/time.js\";
 
@@ -1206,7 +1208,7 @@ fn office() -> &'static str {
 
 /// The text at `/office/commands.js`.
 fn office_commands_js() -> &'static str {
-    "// Commands: what is sent to change the archive, and what is said of a refusal.
+    "// Commands: what is sent to change the archive, what is said of a refusal, and whose a card file is.
 import { h, send } from \"/shared/page.js\";
 import { say } from \"/shared/say.js\";
 import { busy, dropKey, tellBusy } from \"./office.js\";
@@ -1247,6 +1249,38 @@ export const refusal = (status, line) =>
 /** @type {(id: string, label: string, attributes: Record<string, unknown>) => HTMLElement} a field with its label */
 export const field = (id, label, attributes) =>
   h(\"div\", { class: \"field\" }, h(\"label\", { for: id }, label), h(\"input\", { id, required: true, ...attributes }));
+
+/**
+ * A name in a card file: 35 bytes in a code page of ISO 8859.
+ * @param {ArrayBuffer} file
+ * @param {number} at where the code page stands; the name follows
+ * @returns {string}
+ */
+function nameIn(file, at) {
+  const page = new DataView(file).getUint8(at);
+  // There are no other parts of ISO 8859.
+  const part = page > 0 && page <= 16 && page !== 12 ? page : 1;
+  return new TextDecoder(`iso-8859-${part}`).decode(new Uint8Array(file, at + 1, 35)).replace(/[\\0 ]+$/, \"\");
+}
+
+/**
+ * Whose a card file is, by its EF Identification (0520) of either generation. Nothing is judged by it: the archive reads the file itself.
+ * @param {ArrayBuffer} file
+ * @returns {{holder: string, name: string} | null}
+ */
+export function holderOf(file) {
+  const view = new DataView(file);
+  for (let at = 0; at + 5 <= view.byteLength;) {
+    const [id, kind, size] = [view.getUint16(at), view.getUint8(at + 2), view.getUint16(at + 3)];
+    const start = at + 5;
+    if (id === 0x0520 && (kind === 0 || kind === 2) && size >= 143 && start + 143 <= view.byteLength) {
+      const holder = [...new Uint8Array(file, start, 15)].map((one) => one.toString(16).padStart(2, \"0\")).join(\"\");
+      return { holder, name: `${nameIn(file, start + 101)} ${nameIn(file, start + 65)}`.trim() };
+    }
+    at = start + size;
+  }
+  return null;
+}
 "
 }
 
@@ -1317,9 +1351,9 @@ fn office_files_js() -> &'static str {
 import { h, listed } from \"/shared/page.js\";
 import { minuteOf, textOf } from \"/shared/time.js\";
 import { both, monthName, say } from \"/shared/say.js\";
-import { cardOf, holderOf, readDrivers } from \"/shared/read.js\";
+import { cardOf, readDrivers } from \"/shared/read.js\";
 import { ask, atLogOut, button, confirmed, head, link, proposed, telling, thisMonth, unfinished } from \"./office.js\";
-import { codeOf, command, isUnsure } from \"./commands.js\";
+import { codeOf, command, holderOf, isUnsure } from \"./commands.js\";
 
 const MOST = 262_144, NAME = /\\.(ddd|c1b|tgd|esm)$/i, FAULTS_IN_A_ROW = 2;
 
@@ -1655,7 +1689,8 @@ class GapForm {
   /** @type {(piece: Piece, k: number) => HTMLElement} divides a gap at a local time, or at each midnight */
   splitter(piece, k) {
     const cut = momentField(`cut-${k}`, say.splitAt, null), told = h(\"span\", { class: \"warn-text\", role: \"status\" });
-    Object.assign(cut.input, { required: false, min: localText(piece.start).replace(\" \", \"T\"), max: localText(piece.past).replace(\" \", \"T\") });
+    const [min, max] = [piece.start, piece.past].map((one) => localText(one).replace(\" \", \"T\"));
+    Object.assign(cut.input, { required: false, min, max });
     const split = () => {
       const at = cut.minute();
       if (at === null || at <= piece.start || at >= piece.past) { told.textContent = say.splitWithin; return; }
@@ -1860,18 +1895,20 @@ export async function page({ signal, again }) {
   const people = readDrivers(await ask(\"/drivers\", signal));
   return [head(say.inspection, last ? printButton() : null), people.length ? askForm(people, again) : h(\"p\", {}, say.noDriversYet),
     last ? await answer(last, people, signal) : null,
-    h(\"h2\", {}, say.missing), h(\"div\", { class: \"box warn\" }, h(\"ul\", {}, say.inspMissing.map((/** @type {string} */ one) => h(\"li\", {}, one))))];
+    h(\"h2\", {}, say.missing),
+    h(\"div\", { class: \"box warn\" }, h(\"ul\", {}, say.inspMissing.map((/** @type {string} */ one) => h(\"li\", {}, one))))];
 }
 "
 }
 
 /// The text at `/office/left.js`.
 fn office_left_js() -> &'static str {
-    "// What is left until the limits, for all drivers and for one. Each loads what the other doesn't need.
+    "// What is left until the limits, for all drivers and for one.
 import { h, written } from \"/shared/page.js\";
 import { DAY, textOf, tomorrow } from \"/shared/time.js\";
-import { both, length, localMoment, monthName, say, shortUtcDay } from \"/shared/say.js\";
-import { leftOf, readAhead, readDebts, readDrivers } from \"/shared/read.js\";
+import { both, debtsPart, length, localMoment, monthName, say, shortUtcDay } from \"/shared/say.js\";
+import { readAhead, readDebts, readDrivers } from \"/shared/read.js\";
+import { leftOf, meters, readForecast } from \"/shared/tables.js\";
 import { ask, atLogOut, head, link, listTable, momentField, printButton, thisMonth, tool, zoneLine } from \"./office.js\";
 
 /** @typedef {import(\"/shared/tables.js\").Forecast} Forecast */
@@ -1958,7 +1995,6 @@ const untold = (rows) => (rows.length === 0 ? null : [h(\"h2\", {}, say.leftUnto
 
 /** @type {(context: import(\"./office.js\").Context) => Promise<import(\"./office.js\").Content>} */
 async function leftAll({ signal, again }) {
-  const { readForecast } = await import(\"/shared/tables.js\");
   const rows = readForecast(await ask(`/forecast/${textOf(startOfDriving()).replace(\" \", \"/\")}`, signal)), told = rows.filter(isTold);
   return [head(`${say.left}: ${localMoment(startOfDriving(), true)}`, printButton()), startForm(again),
     h(\"p\", { class: \"box\" }, say.leftAssume),
@@ -1978,8 +2014,8 @@ const comingBox = (breaches) => (breaches.length === 0 ? null : h(\"div\", { cla
   h(\"ul\", {}, breaches.map((one) => h(\"li\", {}, say[one.kind](one.amount), \" \", both(one.at))))));
 
 /** What a forecast of one driver says.
- * @type {(ahead: import(\"/shared/read.js\").Ahead, meters: (ahead: any) => HTMLElement) => import(\"./office.js\").Content} */
-function toldOf(ahead, meters) {
+ * @type {(ahead: import(\"/shared/read.js\").Ahead) => import(\"./office.js\").Content} */
+function toldOf(ahead) {
   const days = Math.floor((ahead.start - ahead.held) / DAY);
   if (ahead.not) return warning(say.leftCrew);
   if (isNever(ahead)) return warning(say.noLeft);
@@ -1991,14 +2027,13 @@ function toldOf(ahead, meters) {
 
 /** @type {(context: import(\"./office.js\").Context) => Promise<import(\"./office.js\").Content>} */
 async function leftOne({ signal, args: [driver], again }) {
-  const { debtsPart, meters } = await import(\"/shared/parts.js\");
   const ahead = readAhead(await ask(`/drivers/${driver}/ahead/${textOf(startOfDriving()).replace(\" \", \"/\")}`, signal)),
     [person] = readDrivers(await ask(`/drivers/${driver}`, signal));
   const debts = readDebts(await ask(`/drivers/${driver}/debts`, signal));
   const title = head([written(person.name), `: ${say.left}`], tool(`/drivers/${driver}/${thisMonth()}`, monthName(thisMonth())),
     printButton());
   const held = isNever(ahead) ? \"\" : ` · ${say.colHeld} ${both(ahead.held)}`;
-  return [title, startForm(again), h(\"p\", {}, h(\"b\", {}, `${say.startAt}: ${both(ahead.start)}`), held), toldOf(ahead, meters),
+  return [title, startForm(again), h(\"p\", {}, h(\"b\", {}, `${say.startAt}: ${both(ahead.start)}`), held), toldOf(ahead),
     h(\"p\", { class: \"note\" }, say.leftAssume), h(\"h2\", {}, say.debts), debtsPart(debts)];
 }
 
@@ -2014,7 +2049,7 @@ import { h, written } from \"/shared/page.js\";
 import { DAY, now, rangeOf } from \"/shared/time.js\";
 import { formal, languageNow, localMoment, monthName, say, withLanguage } from \"/shared/say.js\";
 import { cardOf, readDrivers, readEntries, readFiles, readVersion, readWhy } from \"/shared/read.js\";
-import { breachItem, isUnfinished } from \"/shared/parts.js\";
+import { breachItem } from \"/shared/parts.js\";
 import { ask, button, head, languageField, telling, tool } from \"./office.js\";
 
 const SENDER = \"tacho.sender\", LANGUAGE = \"tacho.letter.\", DAYS_TO_ANSWER = 14, DIGITS = 12, ANSWER_LINES = 3;
@@ -2022,6 +2057,13 @@ const SENDER = \"tacho.sender\", LANGUAGE = \"tacho.letter.\", DAYS_TO_ANSWER = 
 /** The language of a driver's letters.
  * @type {(driver: string) => string} */
 const languageOf = (driver) => localStorage.getItem(LANGUAGE + driver) ?? languageNow();
+
+/** Whether what shows a breach ends in time that isn't known: no letter is written from it.
+ * @type {(breach: import(\"/shared/read.js\").ShownBreach) => boolean} */
+function isUnfinished({ kind, evidence }) {
+  const last = evidence.filter((line) => [\"break\", \"rest\", \"weekly\"].includes(line.word)).at(-1);
+  return [\"B1\", \"B2\", \"B8\"].includes(kind) && last !== undefined && last.past === null;
+}
 
 /** @type {() => { field: HTMLElement, printed: HTMLElement }} the sender: a field, and its text as it is printed */
 function sender() {
@@ -2091,9 +2133,9 @@ fn office_month_js() -> &'static str {
     "// A driver's month.
 import { Problem, h, written } from \"/shared/page.js\";
 import { monthStep, now, offsetText, rangeOf, zone } from \"/shared/time.js\";
-import { monthName, say } from \"/shared/say.js\";
+import { debtsPart, monthName, say } from \"/shared/say.js\";
 import { readBreaches, readDebts, readEntries, readFiles, readGaps, readSheet, readSpans, readWhy } from \"/shared/read.js\";
-import { breachItem, chart, debtsPart, gapsPart, notExaminedBox, sheetTable, unseenOf } from \"/shared/parts.js\";
+import { breachItem, chart, gapsPart, notExaminedBox, sheetTable, unseenOf } from \"/shared/parts.js\";
 import { ask, head, link, printButton, tool } from \"./office.js\";
 
 const TURNS = 3, DRIVE = 3;
@@ -2900,7 +2942,8 @@ export function momentField(id, label, start) {
     chosen = minutes.indexOf(start);
     which.querySelectorAll(\"input\")[chosen].checked = true;
   }
-  return { input, node: h(\"div\", { class: \"field\" }, h(\"label\", { for: id }, label), input, which), minute: () => minutes[chosen] ?? null };
+  const node = h(\"div\", { class: \"field\" }, h(\"label\", { for: id }, label), input, which);
+  return { node, input, minute: () => minutes[chosen] ?? null };
 }
 
 // Requests
@@ -3230,9 +3273,9 @@ fn office_people_js() -> &'static str {
 import { $, h, isAbort, key, written } from \"/shared/page.js\";
 import { DAY, dateOf, minuteOf, now, weekdayOf } from \"/shared/time.js\";
 import { say, utcDay } from \"/shared/say.js\";
-import { cardOf, holderOf, readDrivers } from \"/shared/read.js\";
+import { cardOf, readDrivers } from \"/shared/read.js\";
 import { ask, atLogOut, button, confirmed, head, link, listTable, notice, proposed, telling } from \"./office.js\";
-import { command, field, isUnsure, refusal } from \"./commands.js\";
+import { command, field, holderOf, isUnsure, refusal } from \"./commands.js\";
 
 const LETTERS = \"abcdefghijkmnopqrstuvwxyzABCDEFGHJKLMNPQRSTUVWXYZ23456789\", KEY_LENGTH = 32, BYTES = 256;
 const PLACE = \"tacho.driverspage\", FIRST_DAY = \"2000-01-03\", DAYS_BEFORE = 56;
@@ -3371,7 +3414,8 @@ function addForm(people, again) {
   };
   return h(\"form\", { class: \"row end\", id: \"add\", onsubmit: submit },
     h(\"div\", { class: \"field\" }, h(\"label\", { for: \"f-file\" }, say.fromFile),
-      h(\"input\", { id: \"f-file\", type: \"file\", onchange: (event) => fromFile(event.target.files[0]) }), h(\"span\", { id: \"f-file-told\", class: \"warn-text\", role: \"status\" })),
+      h(\"input\", { id: \"f-file\", type: \"file\", onchange: (event) => fromFile(event.target.files[0]) }),
+      h(\"span\", { id: \"f-file-told\", class: \"warn-text\", role: \"status\" })),
     field(\"f-number\", say.number, { type: \"number\", min: 1, max: 999999, value: Math.max(0, ...people.map((one) => one.number)) + 1 }),
     field(\"f-name\", say.fullName, { value: person?.name ?? \"\" }),
     field(\"f-holder\", say.card, { pattern: \"[0-9a-f]{30}\", size: 32, title: say.cardForm, value: person?.holder ?? \"\" }),
@@ -3423,7 +3467,8 @@ async function addMany(file, list, again) {
   const all = registrationsOf(await file.text());
   if (all === null) { list.replaceChildren(h(\"li\", { class: \"bad\" }, h(\"span\", {}, say.csvHead(HEAD.join(\",\"))))); return; }
   let added = 0;
-  const waiting = (/** @type {Registration} */ one) => h(\"li\", {}, h(\"span\", {}, telling((who) => say.waiting(`${one.driver} ${who}`), one.name)));
+  const waiting = (/** @type {Registration} */ one) =>
+    h(\"li\", {}, h(\"span\", {}, telling((who) => say.waiting(`${one.driver} ${who}`), one.name)));
   const items = all.map((one) => list.appendChild(waiting(one)));
   for (const [k, one] of all.entries()) {
     const { status, line } = await register(one).catch(() => ({ status: 0, line: \"\" }));
@@ -3479,8 +3524,7 @@ fn office_start_js() -> &'static str {
 import { h, listed, written } from \"/shared/page.js\";
 import { DAY, localText, monthStep, now, textOf, tomorrow } from \"/shared/time.js\";
 import { daysSince, length, localMoment, localTime, monthName, say } from \"/shared/say.js\";
-import { readForecast, readStanding } from \"/shared/tables.js\";
-import { leftOf } from \"/shared/read.js\";
+import { leftOf, readForecast, readStanding } from \"/shared/tables.js\";
 import { ask, button, head, link, listRow, listTable, printButton, thisMonth, zoneLine } from \"./office.js\";
 
 const OVERDUE = 28, SOON = 21, GONE = 56, FEW_DAYS = 10, STALE = 4;
@@ -5424,29 +5468,20 @@ export function moduleAt(path) {
 
 /// The text at `/shared/parts.js`.
 fn shared_parts_js() -> &'static str {
-    "// Parts that both pages show: breaches with their evidence, the chart, the sheet, debts, gaps, what isn't examined, and what is left.
+    "// Parts of a month that both pages show: breaches with their evidence, what isn't examined, the chart, the sheet, and gaps.
 import { h, svg } from \"./page.js\";
-import { ARTICLES, leftOf } from \"./read.js\";
-import { amountText, both, bothTimes, formal, hm, length, localMoment, localTime, say, shortFormal, shortUtcDay, utcDay, utcTime }
+import { ARTICLES } from \"./read.js\";
+import { amountText, both, bothTimes, formal, hm, length, localMoment, say, shortFormal, shortUtcDay, undivided, utcDay, utcTime }
   from \"./say.js\";
 import { DAY, dateOf, offsetText, weekdayOf } from \"./time.js\";
 
-/** @import { Ahead, Breach, CardFile, Day, Debt, Entry, Evidence, Range, ShownBreach, Span, Stretch } from \"./read.js\" */
+/** @import { Breach, Day, Entry, Evidence, Range, ShownBreach, Span, Stretch } from \"./read.js\" */
 /** @typedef {Range & {cause: string, from: number}} Unseen what isn't examined, why, and from when on it is examined again */
 
 // Breaches
 
 /** The minutes that a rule allows, of the rules that add driving up. */
 const LIMITS = new Map([[\"B1\", 270], [\"B4\", 600], [\"B5\", 540], [\"B6\", 3360], [\"B7\", 5400]]);
-
-/**
- * A sentence whose lengths, such as '4 h 30', no end of a line divides.
- * @param {string} text
- * @returns {string}
- */
-export function undivided(text) {
-  return text.replace(/(\\d) (h|min|minutes|Minuten)\\b/g, \"$1\\u00a0$2\").replace(/(h) (\\d\\d)\\b/g, \"$1\\u00a0$2\");
-}
 
 /**
  * What stands in the last column of a line of evidence, in words.
@@ -5601,16 +5636,6 @@ export function breachItem(breach, { entries, open = false, formalTimes = false,
     h(\"p\", { class: \"sentence\" }, sentenceOf(breach)),
     formalTimes ? [limits(`${say.at}: ${moment(at)} · ${counted} · ${article}`), table]
       : h(\"div\", { class: \"foot\" }, limits(moment(at)), folded));
-}
-
-/**
- * Whether what shows a breach ends in time that isn't known: no letter is written from it.
- * @param {ShownBreach} breach
- * @returns {boolean}
- */
-export function isUnfinished({ kind, evidence }) {
-  const last = evidence.filter((line) => [\"break\", \"rest\", \"weekly\"].includes(line.word)).at(-1);
-  return [\"B1\", \"B2\", \"B8\"].includes(kind) && last !== undefined && last.past === null;
 }
 
 // What isn't examined
@@ -5882,32 +5907,7 @@ export function sheetTable({ days, total, later = [] }) {
     h(\"tfoot\", {}, h(\"tr\", {}, h(\"th\", { scope: \"row\" }, say.wholeMonth), total.map(cell)))));
 }
 
-// Debts and gaps
-
-/**
- * The rest that is to be made up, and below it the rest that was. Where the examination broke off, it isn't known what became of a debt.
- * @param {Array<Stretch<Debt>>} stretches
- * @returns {import(\"./page.js\").Child}
- */
-export function debtsPart(stretches) {
-  const last = stretches.at(-1);
-  const open = last === undefined ? [] : last.items.filter((debt) => debt.end !== \"paid\");
-  const before = stretches.slice(0, -1).flatMap((one) => one.items);
-  const broken = before.filter((debt) => debt.end === \"open\" && debt.by > (last?.horizon ?? 0));
-  const paid = stretches.flatMap((one) => one.items).filter((debt) => debt.end === \"paid\").reverse();
-  const item = (/** @type {Debt} */ debt, /** @type {string} */ sentence, /** @type {string} */ kind) =>
-    h(\"li\", { class: kind }, undivided(say[sentence](utcDay(debt.week), length(debt.owes), both(debt.by))));
-  const items = [
-    ...open.map((debt) => (debt.end === \"late\" ? item(debt, \"debtLate\", \"box bad\") : item(debt, \"debt\", \"box warn\"))),
-    ...broken.map((debt) => item(debt, \"debtBroken\", \"box warn\")),
-  ];
-  const paidItem = (/** @type {Debt} */ debt) =>
-    h(\"li\", {}, undivided(say.debtWas(utcDay(debt.week), length(debt.owes), both(/** @type {number} */ (debt.at)))));
-  return [
-    items.length > 0 ? h(\"ul\", { class: \"list\" }, items) : h(\"p\", {}, say.noDebts),
-    paid.length > 0 ? h(\"details\", {}, h(\"summary\", {}, say.debtPaid(paid.length)), h(\"ul\", {}, paid.slice(0, 12).map(paidItem))) : null,
-  ];
-}
+// Gaps
 
 /**
  * The gaps.
@@ -5920,59 +5920,6 @@ export function gapsPart(gaps) {
   }
   const text = (/** @type {Range} */ { start, past }) => `${both(start)} ${say.to} ${both(past)} · ${length(past - start)}`;
   return h(\"ul\", {}, gaps.map((gap) => h(\"li\", {}, text(gap))));
-}
-
-// What is left
-
-/**
- * A field with what is left: a length with a bar, or a moment.
- * @param {string} value
- * @param {string} text
- * @param {{left: number, most: number, isFirst?: boolean} | null} [amount] null for a moment
- * @returns {HTMLElement}
- */
-function meter(value, text, amount = null) {
-  if (amount === null) {
-    return h(\"li\", { class: \"meter moment\" }, h(\"b\", {}, value), h(\"span\", {}, undivided(text)));
-  }
-  const { left, most, isFirst } = amount;
-  const part = Math.max(0, Math.min(100, 100 * left / most));
-  return h(\"li\", { class: `meter${part < 10 ? \" low\" : \"\"}${isFirst ? \" first\" : \"\"}` }, h(\"b\", {}, value), h(\"span\", {}, undivided(text)),
-    svg(\"svg\", { viewBox: \"0 0 100 4\", preserveAspectRatio: \"none\", \"aria-hidden\": \"true\" },
-      svg(\"rect\", { class: \"full\", width: 100, height: 4 }), svg(\"rect\", { class: \"used\", width: part, height: 4 })));
-}
-
-/**
- * What is left, in fields.
- * @param {Ahead} ahead
- * @returns {HTMLElement}
- */
-export function meters(ahead) {
-  const left = leftOf(ahead);
-  const made = [];
-  if (left.now !== null) {
-    made.push(meter(length(left.now), say.leftBreak, { left: left.now, most: 270, isFirst: true }));
-  }
-  if (left.day !== null) {
-    const [text, most] = left.nine ? [say.leftDay9, 540] : [say.leftDay, 600];
-    made.push(meter(length(left.day), text, { left: left.day, most, isFirst: true }));
-  }
-  if (left.long !== null && left.needsLong) {
-    made.push(meter(localMoment(left.long), say.leftLong));
-  } else if (left.rest !== null && left.long !== null) {
-    made.push(meter(localMoment(left.rest), left.long >= ahead.start ? say.leftRest(localTime(left.long)) : say.leftShort));
-  }
-  if (left.week !== null) {
-    const driven = say.driven(hm(left.weekDrive ?? 0));
-    made.push(meter(length(left.week), `${say.leftWeek} (${driven} ${say.of} 56:00)`, { left: left.week, most: 3360 }));
-  }
-  if (left.two !== null && !left.isYoung) {
-    made.push(meter(length(left.two), `${say.leftTwo} (${say.driven(hm(left.twoDrive))} ${say.of} 90:00)`, { left: left.two, most: 5400 }));
-  }
-  if (left.weekly !== null) {
-    made.push(meter(localMoment(left.weekly), say.leftWeekly));
-  }
-  return h(\"ul\", { class: \"meters\" }, made);
 }
 "
 }
@@ -6611,40 +6558,6 @@ export function readAhead(text) {
   };
 }
 
-/**
- * What is left, from a forecast: how much driving until the next break, in the day, in the week and in two weeks, and when the daily and
- * the weekly rest have to begin at the latest. Null: no limit is reached.
- * @param {Pick<Ahead, \"kinds\" | \"start\" | \"from\" | \"weeks\" | \"reduced\">} ahead
- * @returns {{now: number | null, day: number | null, nine: boolean, week: number | null, two: number | null, rest: number | null,
- *   long: number | null, needsLong: boolean, weekly: number | null, isYoung: boolean, weekDrive: number | null, twoDrive: number}}
- */
-export function leftOf({ kinds, start, from, weeks }) {
-  const left = (/** @type {string} */ kind) => kinds[kind]?.left ?? null;
-  const until = (/** @type {string} */ kind) => kinds[kind]?.until ?? null;
-  const least = (/** @type {Array<number | null>} */ all) => {
-    const known = /** @type {number[]} */ (all.filter((one) => one !== null));
-    return known.length > 0 ? Math.min(...known) : null;
-  };
-  const [ten, nine, rest, long] = [left(\"B4\"), left(\"B5\"), until(\"B2\"), until(\"B3\")];
-  return {
-    now: left(\"B1\"),
-    day: least([ten, nine]),
-    // Whether the two days of the week with more than nine hours are used.
-    nine: nine !== null && (ten === null || nine < ten),
-    week: left(\"B6\"),
-    two: left(\"B7\"),
-    rest,
-    // B3 is reached once the three reduced rests are used: then the rest of eleven hours has to begin in time.
-    long: long ?? (rest === null ? null : rest - 120),
-    needsLong: long !== null && (rest === null || long <= rest),
-    weekly: least([until(\"B8\"), until(\"B9\")]),
-    // What was driven in the week before isn't known.
-    isYoung: from > weekOf(start) - 7 * DAY,
-    weekDrive: weeks.at(-1)?.drive ?? null,
-    twoDrive: weeks.reduce((sum, one) => sum + one.drive, 0),
-  };
-}
-
 // Cards
 
 /** The states of Annex IC, by the first byte of a holder. */
@@ -6660,46 +6573,14 @@ export function cardOf(holder) {
   const [state, ...signs] = (holder.match(/../g) ?? []).map((pair) => parseInt(pair, 16));
   return `${STATES[state] ?? holder.slice(0, 2)} ${String.fromCharCode(...signs)}..`;
 }
-
-/**
- * A name in a card file: 35 bytes in a code page of ISO 8859.
- * @param {ArrayBuffer} file
- * @param {number} at where the code page stands; the name follows
- * @returns {string}
- */
-function nameIn(file, at) {
-  const page = new DataView(file).getUint8(at);
-  // There are no other parts of ISO 8859.
-  const part = page > 0 && page <= 16 && page !== 12 ? page : 1;
-  return new TextDecoder(`iso-8859-${part}`).decode(new Uint8Array(file, at + 1, 35)).replace(/[\\0 ]+$/, \"\");
-}
-
-/**
- * Whose a card file is, by its EF Identification (0520) of either generation. Nothing is judged by it: the archive reads the file itself.
- * @param {ArrayBuffer} file
- * @returns {{holder: string, name: string} | null}
- */
-export function holderOf(file) {
-  const view = new DataView(file);
-  for (let at = 0; at + 5 <= view.byteLength;) {
-    const [id, kind, size] = [view.getUint16(at), view.getUint8(at + 2), view.getUint16(at + 3)];
-    const start = at + 5;
-    if (id === 0x0520 && (kind === 0 || kind === 2) && size >= 143 && start + 143 <= view.byteLength) {
-      const holder = [...new Uint8Array(file, start, 15)].map((one) => one.toString(16).padStart(2, \"0\")).join(\"\");
-      return { holder, name: `${nameIn(file, start + 101)} ${nameIn(file, start + 65)}`.trim() };
-    }
-    at = start + size;
-  }
-  return null;
-}
 "
 }
 
 /// The text at `/shared/say.js`.
 fn shared_say_js() -> &'static str {
-    "// The language, and how times and lengths are said in it. Its sentences are in two files, words-en.js or words-de.js: those of both pages
-// in shared/, the others in the page's own folder. Only the files of the language that is shown are loaded.
-import { moduleAt } from \"./page.js\";
+    "// The language, and how times, lengths and debts are said in it. Its sentences are in two files, words-en.js or words-de.js: those of both
+// pages in shared/, the others in the page's own folder. Only the files of the language that is shown are loaded.
+import { h, moduleAt } from \"./page.js\";
 import { DAY, dateOf, localText, minuteOf, textOf, weekdayOf } from \"./time.js\";
 
 /** Where the language is kept: in localStorage, since it is no secret and holds for all visits. */
@@ -6933,6 +6814,15 @@ export function daysSince(minute, present) {
   return Math.floor((dayOf(present) - dayOf(minute - 1)) / DAY);
 }
 
+/**
+ * A sentence whose lengths, such as '4 h 30', no end of a line divides.
+ * @param {string} text
+ * @returns {string}
+ */
+export function undivided(text) {
+  return text.replace(/(\\d) (h|min|minutes|Minuten)\\b/g, \"$1\\u00a0$2\").replace(/(h) (\\d\\d)\\b/g, \"$1\\u00a0$2\");
+}
+
 // Breaches
 
 /** The sentences on the amount of a breach; of the other kinds it is how much is over the limit. */
@@ -6949,16 +6839,47 @@ export function amountText({ kind, amount }) {
   }
   return kind === \"B3\" ? `+${amount}` : say[AMOUNTS.get(kind) ?? \"overBy\"](length(amount));
 }
+
+// Debts
+
+/** @import { Debt } from \"./read.js\" */
+
+/**
+ * The rest that is to be made up, and below it the rest that was. Where the examination broke off, it isn't known what became of a debt.
+ * @param {Array<import(\"./read.js\").Stretch<Debt>>} stretches
+ * @returns {import(\"./page.js\").Child}
+ */
+export function debtsPart(stretches) {
+  const last = stretches.at(-1);
+  const open = last === undefined ? [] : last.items.filter((debt) => debt.end !== \"paid\");
+  const before = stretches.slice(0, -1).flatMap((one) => one.items);
+  const broken = before.filter((debt) => debt.end === \"open\" && debt.by > (last?.horizon ?? 0));
+  const paid = stretches.flatMap((one) => one.items).filter((debt) => debt.end === \"paid\").reverse();
+  const item = (/** @type {Debt} */ debt, /** @type {string} */ sentence, /** @type {string} */ kind) =>
+    h(\"li\", { class: kind }, undivided(say[sentence](utcDay(debt.week), length(debt.owes), both(debt.by))));
+  const items = [
+    ...open.map((debt) => (debt.end === \"late\" ? item(debt, \"debtLate\", \"box bad\") : item(debt, \"debt\", \"box warn\"))),
+    ...broken.map((debt) => item(debt, \"debtBroken\", \"box warn\")),
+  ];
+  const paidItem = (/** @type {Debt} */ debt) =>
+    h(\"li\", {}, undivided(say.debtWas(utcDay(debt.week), length(debt.owes), both(/** @type {number} */ (debt.at)))));
+  return [
+    items.length > 0 ? h(\"ul\", { class: \"list\" }, items) : h(\"p\", {}, say.noDebts),
+    paid.length > 0 ? h(\"details\", {}, h(\"summary\", {}, say.debtPaid(paid.length)), h(\"ul\", {}, paid.slice(0, 12).map(paidItem))) : null,
+  ];
+}
 "
 }
 
 /// The text at `/shared/tables.js`.
 fn shared_tables_js() -> &'static str {
-    "// What the replies in CSV say (docs/FORMATS.md): a row for each driver, or for each breach. A text of another form is a problem.
-import { Problem } from \"./page.js\";
-import { minuteOf } from \"./time.js\";
+    "// What the replies in CSV say (docs/FORMATS.md): a row for each driver, or for each breach. A text of another form is a problem. Below them:
+// what is left, by a forecast.
+import { Problem, h, svg } from \"./page.js\";
+import { hm, length, localMoment, localTime, say, undivided } from \"./say.js\";
+import { DAY, minuteOf, weekOf } from \"./time.js\";
 
-const DAY = /^\\d{4}-\\d\\d-\\d\\d$/, MOMENT = /^\\d{4}-\\d\\d-\\d\\d \\d\\d:\\d\\d$/, NUMBER = /^\\d+$/;
+const DATE = /^\\d{4}-\\d\\d-\\d\\d$/, MOMENT = /^\\d{4}-\\d\\d-\\d\\d \\d\\d:\\d\\d$/, NUMBER = /^\\d+$/;
 const RULES = [\"B1\", \"B2\", \"B3\", \"B4\", \"B5\", \"B6\", \"B7\", \"B8\", \"B9\"];
 
 /** @type {(form: RegExp, read: (text: string) => any) => (text: string) => any} reads a cell that has a form */
@@ -6966,7 +6887,7 @@ const cell = (form, read) => (text) => {
   if (!form.test(text)) throw new Problem(\"unreadable\");
   return read(text);
 };
-const number = cell(NUMBER, Number), day = cell(DAY, minuteOf), moment = cell(MOMENT, minuteOf), word = String;
+const number = cell(NUMBER, Number), day = cell(DATE, minuteOf), moment = cell(MOMENT, minuteOf), word = String;
 /** @type {(read: (text: string) => any) => (text: string) => any} a cell that may be empty */
 const orNone = (read) => (text) => (text === \"\" ? null : read(text));
 
@@ -7026,6 +6947,91 @@ export const readIncidents = (text) => rowsOf(text, {
   driver: number, name: word, kind: cell(/^B([1-9]|10)$/, String), article: cell(/^Art \\S+$/, String), moment, since: moment,
     amount: number,
 });
+
+// What is left
+
+/**
+ * What is left, from a forecast: how much driving until the next break, in the day, in the week and in two weeks, and when the daily and
+ * the weekly rest have to begin at the latest. Null: no limit is reached.
+ * @param {Pick<import(\"./read.js\").Ahead, \"kinds\" | \"start\" | \"from\" | \"weeks\" | \"reduced\">} ahead
+ */
+export function leftOf({ kinds, start, from, weeks }) {
+  const left = (/** @type {string} */ kind) => kinds[kind]?.left ?? null;
+  const until = (/** @type {string} */ kind) => kinds[kind]?.until ?? null;
+  const least = (/** @type {Array<number | null>} */ all) => {
+    const known = /** @type {number[]} */ (all.filter((one) => one !== null));
+    return known.length > 0 ? Math.min(...known) : null;
+  };
+  const [ten, nine, rest, long] = [left(\"B4\"), left(\"B5\"), until(\"B2\"), until(\"B3\")];
+  return {
+    now: left(\"B1\"),
+    day: least([ten, nine]),
+    // Whether the two days of the week with more than nine hours are used.
+    nine: nine !== null && (ten === null || nine < ten),
+    week: left(\"B6\"),
+    two: left(\"B7\"),
+    rest,
+    // B3 is reached once the three reduced rests are used: then the rest of eleven hours has to begin in time.
+    long: long ?? (rest === null ? null : rest - 120),
+    needsLong: long !== null && (rest === null || long <= rest),
+    weekly: least([until(\"B8\"), until(\"B9\")]),
+    // What was driven in the week before isn't known.
+    isYoung: from > weekOf(start) - 7 * DAY,
+    weekDrive: weeks.at(-1)?.drive ?? null,
+    twoDrive: weeks.reduce((sum, one) => sum + one.drive, 0),
+  };
+}
+
+/**
+ * A field with what is left: a length with a bar, or a moment.
+ * @param {string} value
+ * @param {string} text
+ * @param {{left: number, most: number, isFirst?: boolean} | null} [amount] null for a moment
+ * @returns {HTMLElement}
+ */
+function meter(value, text, amount = null) {
+  if (amount === null) {
+    return h(\"li\", { class: \"meter moment\" }, h(\"b\", {}, value), h(\"span\", {}, undivided(text)));
+  }
+  const { left, most, isFirst } = amount;
+  const part = Math.max(0, Math.min(100, 100 * left / most));
+  return h(\"li\", { class: `meter${part < 10 ? \" low\" : \"\"}${isFirst ? \" first\" : \"\"}` }, h(\"b\", {}, value), h(\"span\", {}, undivided(text)),
+    svg(\"svg\", { viewBox: \"0 0 100 4\", preserveAspectRatio: \"none\", \"aria-hidden\": \"true\" },
+      svg(\"rect\", { class: \"full\", width: 100, height: 4 }), svg(\"rect\", { class: \"used\", width: part, height: 4 })));
+}
+
+/**
+ * What is left, in fields.
+ * @param {import(\"./read.js\").Ahead} ahead
+ * @returns {HTMLElement}
+ */
+export function meters(ahead) {
+  const left = leftOf(ahead);
+  const made = [];
+  if (left.now !== null) {
+    made.push(meter(length(left.now), say.leftBreak, { left: left.now, most: 270, isFirst: true }));
+  }
+  if (left.day !== null) {
+    const [text, most] = left.nine ? [say.leftDay9, 540] : [say.leftDay, 600];
+    made.push(meter(length(left.day), text, { left: left.day, most, isFirst: true }));
+  }
+  if (left.long !== null && left.needsLong) {
+    made.push(meter(localMoment(left.long), say.leftLong));
+  } else if (left.rest !== null && left.long !== null) {
+    made.push(meter(localMoment(left.rest), left.long >= ahead.start ? say.leftRest(localTime(left.long)) : say.leftShort));
+  }
+  if (left.week !== null) {
+    const driven = say.driven(hm(left.weekDrive ?? 0));
+    made.push(meter(length(left.week), `${say.leftWeek} (${driven} ${say.of} 56:00)`, { left: left.week, most: 3360 }));
+  }
+  if (left.two !== null && !left.isYoung) {
+    made.push(meter(length(left.two), `${say.leftTwo} (${say.driven(hm(left.twoDrive))} ${say.of} 90:00)`, { left: left.two, most: 5400 }));
+  }
+  if (left.weekly !== null) {
+    made.push(meter(localMoment(left.weekly), say.leftWeekly));
+  }
+  return h(\"ul\", { class: \"meters\" }, made);
+}
 "
 }
 
