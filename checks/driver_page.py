@@ -32,13 +32,11 @@ from lib.served import FIELDS, PAGES
 
 PAGE_FILES = [
     "driver/driver.js", "driver/index.html", "shared/page.css", "shared/page.js", "shared/parts.js", "shared/read.js", "shared/say.js",
-    "shared/time.js",
+    "shared/tables.js", "shared/time.js",
 ]
 # The files with the sentences of each language, of which the page loads those of one.
 SENTENCES = {language: [f"{folder}/words-{language}.js" for folder in ("shared", "driver")] for language in ("en", "de")}
 ALL_FILES = [*PAGE_FILES, *SENTENCES["en"], *SENTENCES["de"]]
-# Modules of the folder shared that the driver's page doesn't load.
-OF_THE_OFFICE = ["shared/tables.js"]
 # The most that the page may have: bytes as they are and compressed, and requests.
 LARGEST = {"raw": 160 * 1024, "compressed": 45 * 1024, "files": 12}
 MOST_CONNECTIONS = 1_000_000
@@ -311,7 +309,7 @@ def files() -> Comparisons:
     texts = {name: read(os.path.join(PAGES, *name.split("/"))) for name in ALL_FILES}
     for folder in ("driver", "shared"):
         names = [f"{folder}/{name}" for name in sorted(os.listdir(os.path.join(PAGES, folder)))]
-        others = [name for name in names if name not in ALL_FILES and name not in OF_THE_OFFICE and name != UPLOADS]
+        others = [name for name in names if name not in ALL_FILES and name != UPLOADS]
         yield f"other files of the folder {folder}", others, []
     for name, text in texts.items():
         yield f"what {name} may not have", [match[0] for form in FORBIDDEN for match in re.finditer(form, text.decode())], []

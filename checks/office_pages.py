@@ -7,6 +7,7 @@ number. Then come faults: wrong keys, broken connections, other replies, a log-o
 Arguments: the program, and, if you like, a folder that gets pictures of the pages. Where Chromium isn't installed, only the files are
 looked at. The last line is 'N passed, M failed'."""
 import gzip
+import itertools
 import json
 import os
 import random
@@ -974,10 +975,10 @@ def looks(office: Office, pictures: str) -> Comparisons:
 
 
 def budget(office: Office) -> Comparisons:
-    """How much each page loads in English, when it is the first one. (A letter in another language loads that one too.)"""
+    """How much each page loads in each language, when it is the first one. (A letter in another language loads that one too.)"""
     office.run(f"localStorage.removeItem('tacho.letter.{CHANGED}')")
-    for address in ADDRESSES:
-        before = len(office.page.events("Network.requestWillBeSent"))
+    for language, address in itertools.product(("en", "de"), ADDRESSES):
+        office.run(f"localStorage.setItem('tacho.language', '{language}')")
         office.page.open(f"{office.site.address}?")  # leaves the page, so that the next one is loaded anew
         office.page.call("Network.setCacheDisabled", cacheDisabled=True)
         before = len(office.page.events("Network.requestWillBeSent"))
@@ -988,7 +989,10 @@ def budget(office: Office) -> Comparisons:
         files = sorted({url.split("#")[0].split("/", 3)[3] for url in urls if re.search(r"/(office|shared)/", url)})
         texts = [read(os.path.join(PAGES, f"{name}index.html" if name.endswith("/") else name)) for name in files]
         sizes = sum(map(len, texts)), sum(len(gzip.compress(text, 9)) for text in texts), len(files)
-        yield f"{address}: bytes, bytes with gzip, requests: {sizes}", [one <= most for one, most in zip(sizes, BUDGET)], [True] * 3
+        yield f"{address} in {language}: the sentences", [name for name in files if "words-" in name], [
+            f"office/words-{language}.js", f"shared/words-{language}.js"]
+        yield f"{address} in {language}: bytes, bytes with gzip, requests: {sizes}", [one <= most for one, most in zip(sizes, BUDGET)], [True] * 3
+    office.speak("en")
 
 
 def quiet(office: Office) -> Comparisons:

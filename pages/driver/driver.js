@@ -1,10 +1,11 @@
 // The driver's page: what is left first, then a month. It asks the archive with the driver's key, and shows the replies. The address after
 // `#` is the month; without one it is the last month that has data.
-import { $, KEY_FORM, Problem, bytes, forget, h, keep, key, listed, reading, send, watch, written } from "/shared/page.js";
-import { breachItem, chart, debtsPart, gapsPart, meters, notExaminedBox, sheetTable, undivided, unseenOf } from "/shared/parts.js";
+import { $, KEY_FORM, Problem, bytes, forget, h, isAbort, keep, key, listed, reading, send, watch, written } from "/shared/page.js";
+import { breachItem, chart, gapsPart, notExaminedBox, sheetTable, unseenOf } from "/shared/parts.js";
 import { lengthOf, readAhead, readBreaches, readDebts, readEntries, readFiles, readGaps, readSheet, readSpans, readVersion, readWhy }
   from "/shared/read.js";
-import { LANGUAGES, both, languageNow, length, monthName, ready, say, speak, utcDay } from "/shared/say.js";
+import { LANGUAGES, both, debtsPart, languageNow, monthName, ready, say, speak, undivided, utcDay } from "/shared/say.js";
+import { meters } from "/shared/tables.js";
 import { DAY, dateOf, localText, minuteOf, minutesOfLocal, monthOf, monthStep, nextMorning, now, offsetText, rangeOf, textOf, zone }
   from "/shared/time.js";
 
@@ -208,7 +209,7 @@ async function attempt(ask) {
     if (asking !== state.asking) {
       return false;
     }
-    const isStopped = /** @type {Error} */ (fault).name === "AbortError";
+    const isStopped = isAbort(fault);
     // Where the driver has stopped it, or only the limit of requests stands against it, what is there stays.
     if (!isStopped && !(fault instanceof Problem && fault.name === "tooOften")) {
       state.month = null;

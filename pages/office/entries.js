@@ -1,5 +1,5 @@
 // A driver's entries, and their withdrawal.
-import { $, h, written } from "/shared/page.js";
+import { $, h, isAbort, written } from "/shared/page.js";
 import { both, length, monthName, say } from "/shared/say.js";
 import { readDrivers, readEntries } from "/shared/read.js";
 import { ask, button, confirmed, head, listTable, notice, thisMonth, tool } from "./office.js";
@@ -15,7 +15,7 @@ async function withdraw(driver, first, last, again) {
     if (/^withdrawn \d+( to \d+)?$/.test(line)) again(notice("good", say.withdrawn(first, last)));
     else again(isUnsure(status) ? notice("warn", say.unsureWithdrawn) : notice("bad", refusal(status, line)));
   } catch (fault) {
-    if (fault.name !== "AbortError") again(notice("warn", say.unsureWithdrawn));
+    if (!isAbort(fault)) again(notice("warn", say.unsureWithdrawn));
   }
 }
 
@@ -47,7 +47,7 @@ function rangeForm(most, act) {
 export async function page({ signal, args: [driver], again }) {
   const [person] = readDrivers(await ask(`/drivers/${driver}`, signal));
   const entries = readEntries(await ask(`/drivers/${driver}/entries`, signal));
-  const act = (first, last) => withdraw(driver, first, last, again);
+  const act = (/** @type {number} */ first, /** @type {number} */ last) => withdraw(driver, first, last, again);
   return [head([written(person.name), `: ${say.entries}`], tool(`/drivers/${driver}/gaps`, say.gapForm),
     tool(`/drivers/${driver}/${thisMonth()}`, monthName(thisMonth()))),
     h("p", {}, say.entriesHelp), entries.length === 0 ? h("p", { class: "box" }, say.noEntries)

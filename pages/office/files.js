@@ -1,10 +1,10 @@
 // Card files, one after the other. The list outlives the page, so that an office can look at other pages meanwhile.
-import { h } from "/shared/page.js";
+import { h, listed } from "/shared/page.js";
 import { minuteOf, textOf } from "/shared/time.js";
 import { both, monthName, say } from "/shared/say.js";
-import { cardOf, holderOf, readDrivers } from "/shared/read.js";
+import { cardOf, readDrivers } from "/shared/read.js";
 import { ask, atLogOut, button, confirmed, head, link, proposed, telling, thisMonth, unfinished } from "./office.js";
-import { codeOf, command, isUnsure } from "./commands.js";
+import { codeOf, command, holderOf, isUnsure } from "./commands.js";
 
 const MOST = 262_144, NAME = /\.(ddd|c1b|tgd|esm)$/i, FAULTS_IN_A_ROW = 2;
 
@@ -16,7 +16,7 @@ const MOST = 262_144, NAME = /\.(ddd|c1b|tgd|esm)$/i, FAULTS_IN_A_ROW = 2;
 let items = [];
 let others = 0, faults = 0;
 let isSending = false, isStopped = false;
-/** @type {import("/shared/read.js").Person[]} */
+/** @type {import("/shared/read.js").Driver[]} */
 let people = [];
 const list = h("ul", { class: "list results", "aria-live": "polite" }), progress = h("div", { role: "status", class: "row" });
 atLogOut.push(() => { items = []; people = []; others = 0; isStopped = true; draw(); });
@@ -39,6 +39,7 @@ function whatOf(status, line, whose) {
   return isUnsure(status) ? "unsure" : "refused";
 }
 
+/** @type {Record<string, string>} */
 const KINDS = { added: "good", repeated: "same", noCard: "same", waiting: "", sending: "" };
 
 /** The sentence of an item.
@@ -60,7 +61,7 @@ function actionsOf(item) {
   const { what, line, whose } = item.outcome, small = { class: "button small" };
   const sendAgain = button(say.sendAgain, () => retry(item, item.part), { class: "small" });
   if (what === "added") {
-    const driver = /driver (\d+)/.exec(line)[1];
+    const driver = /driver (\d+)/.exec(line)?.[1];
     return link(`/drivers/${driver}/${thisMonth()}`, monthName(thisMonth()), small);
   }
   if (what === "unknownCard") {
@@ -84,7 +85,7 @@ function drawItem(item) {
   item.node.className = KINDS[what] ?? "bad";
   const isRaw = !(what in KINDS) && line !== "";
   item.node.replaceChildren(h("span", {}, sentenceOf(item), isRaw ? h("small", { class: "raw" }, ` ${line}`) : ""),
-    ...[actionsOf(item)].flat(2).filter((one) => one instanceof Node));
+    ...listed([actionsOf(item)]));
 }
 
 /** @type {(what: string) => number} */
@@ -178,7 +179,7 @@ async function filesOf(entry) {
 /** Takes what was dropped. Within a folder only names of card files count; the others are one line.
  * @type {(dropped: DataTransfer) => Promise<void>} */
 async function takeDropped(dropped) {
-  const entries = [...dropped.items].map((item) => item.webkitGetAsEntry()).filter((entry) => entry !== null);
+  const entries = [...dropped.items].flatMap((item) => item.webkitGetAsEntry() ?? []);
   const single = entries.filter((entry) => entry.isFile), folders = entries.filter((entry) => entry.isDirectory);
   const files = [...dropped.files].filter((file) => single.some((entry) => entry.name === file.name));
   for (const folder of folders) {
@@ -193,11 +194,11 @@ async function takeDropped(dropped) {
 function dropPlace() {
   const input = h("input", { type: "file", multiple: true, id: "files", class: "hush", tabindex: "-1", "aria-label": say.choose });
   input.addEventListener("change", () => { take([...input.files]); input.value = ""; });
-  const drop = h("div", { class: "drop" }, h("p", {}, say.drop), button(say.choose, () => input.click(), { class: "main" }), input,
-    h("p", { class: "note" }, say.cardsHelp));
-  drop.addEventListener("dragover", (event) => { event.preventDefault(); drop.classList.add("over"); });
-  drop.addEventListener("dragleave", () => drop.classList.remove("over"));
-  drop.addEventListener("drop", (event) => { event.preventDefault(); drop.classList.remove("over"); takeDropped(event.dataTransfer); });
+  const drop = h("div", {
+    class: "drop", ondragover: (event) => { event.preventDefault(); drop.classList.add("over"); },
+    ondragleave: () => drop.classList.remove("over"),
+    ondrop: (event) => { event.preventDefault(); drop.classList.remove("over"); takeDropped(event.dataTransfer); },
+  }, h("p", {}, say.drop), button(say.choose, () => input.click(), { class: "main" }), input, h("p", { class: "note" }, say.cardsHelp));
   return drop;
 }
 

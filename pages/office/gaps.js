@@ -1,10 +1,10 @@
 // The gaps as a form, in local time. It sends UTC.
-import { h, written } from "/shared/page.js";
+import { h, isAbort, written } from "/shared/page.js";
 import { DAY, dateOf, localText, minuteOf, minutesOfLocal, textOf } from "/shared/time.js";
 import { length, localMoment, monthName, say } from "/shared/say.js";
 import { readDrivers, readEntries, readForm } from "/shared/read.js";
 import { ask, busy, button, head, momentField, notice, thisMonth, tool, unfinished } from "./office.js";
-import { command, field, isUnsure, refusal } from "./commands.js";
+import { command, isUnsure, refusal } from "./commands.js";
 
 const AUTHOR = "tacho.author", AUTHOR_BYTES = 64, NOTE_BYTES = 200, FEW = 60;
 
@@ -59,7 +59,10 @@ class GapForm {
    * @param {import("./office.js").Context} context
    */
   constructor(driver, pieces, count, context) {
-    Object.assign(this, { driver, pieces, count, context });
+    this.driver = driver;
+    this.pieces = pieces;
+    this.count = count;
+    this.context = context;
     this.isSending = false;
     this.list = h("div", {});
     this.told = h("p", { role: "status", id: "gaps-told" });
@@ -70,7 +73,7 @@ class GapForm {
     this.node = h("form", { onsubmit: (event) => { event.preventDefault(); this.send(); } }, this.list,
       h("div", { class: "row end" }, h("div", { class: "field" }, h("label", { for: "author" }, say.author), this.author), this.save),
         this.told,
-      h("datalist", { id: "papers" }, say.papers.map((one) => h("option", { value: one }))));
+      h("datalist", { id: "papers" }, say.papers.map((/** @type {string} */ one) => h("option", { value: one }))));
     this.draw();
   }
 
@@ -96,7 +99,7 @@ class GapForm {
 
   /** @type {(piece: Piece, k: number) => HTMLElement} */
   rowOf(piece, k) {
-    const pick = (value, text) => h("label", {}, h("input", {
+    const pick = (/** @type {string} */ value, /** @type {string} */ text) => h("label", {}, h("input", {
       type: "radio", name: `what-${k}`, value, checked: piece.activity === value,
       onchange: () => { piece.activity = value; this.tellCount(); },
     }), text);
@@ -113,8 +116,8 @@ class GapForm {
   /** @type {(piece: Piece, k: number) => HTMLElement} divides a gap at a local time, or at each midnight */
   splitter(piece, k) {
     const cut = momentField(`cut-${k}`, say.splitAt, null), told = h("span", { class: "warn-text", role: "status" });
-    const input = cut.node.querySelector("input");
-    Object.assign(input, { required: false, min: localText(piece.start).replace(" ", "T"), max: localText(piece.past).replace(" ", "T") });
+    const [min, max] = [piece.start, piece.past].map((one) => localText(one).replace(" ", "T"));
+    Object.assign(cut.input, { required: false, min, max });
     const split = () => {
       const at = cut.minute();
       if (at === null || at <= piece.start || at >= piece.past) { told.textContent = say.splitWithin; return; }
@@ -139,11 +142,12 @@ class GapForm {
     localStorage.setItem(AUTHOR, author);
     try {
       const { status, line } = await command(`/drivers/${this.driver}/entries`, csvOf(pieces, author));
-      if (status === 201 && /^entered \d+ to \d+$/.test(line)) this.isSaved(/^entered (\d+) to (\d+)$/.exec(line).slice(1));
+      const saved = /^entered (\d+) to (\d+)$/.exec(line);
+      if (status === 201 && saved) this.isSaved(saved.slice(1));
       else if (isUnsure(status)) await this.look(pieces, author);
       else this.refused(refusal(status, line));
     } catch (fault) {
-      if (fault.name !== "AbortError") await this.look(pieces, author);
+      if (!isAbort(fault)) await this.look(pieces, author);
     }
   }
 
@@ -168,11 +172,11 @@ class GapForm {
       const entries = readEntries(await busy(ask(`/drivers/${this.driver}/entries`, this.context.signal)));
       const added = entries.slice(this.count);
       const found = added.filter((entry, k) => k < pieces.length && isSame(entry, pieces[k], author));
-      if (added.length > 0 && found.length === pieces.length) this.isSaved([found[0].number, found.at(-1).number]);
+      if (added.length > 0 && found.length === pieces.length) this.isSaved([found[0].number, found[found.length - 1].number]);
       else if (added.length === 0) this.refused(say.notSaved);
       else this.context.again(notice("warn", say.otherEntries));
     } catch (fault) {
-      if (fault.name === "AbortError") return;
+      if (isAbort(fault)) return;
       this.told.replaceChildren(notice("bad", say.unsureEntries, " ",
         button(say.lookAgain, () => this.look(pieces, author), { class: "small" })));
     }

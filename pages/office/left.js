@@ -1,8 +1,9 @@
-// What is left until the limits, for all drivers and for one. Each loads what the other doesn't need.
+// What is left until the limits, for all drivers and for one.
 import { h, written } from "/shared/page.js";
 import { DAY, textOf, tomorrow } from "/shared/time.js";
-import { both, length, localMoment, monthName, say, shortUtcDay } from "/shared/say.js";
-import { leftOf, readAhead, readDebts, readDrivers } from "/shared/read.js";
+import { both, debtsPart, length, localMoment, monthName, say, shortUtcDay } from "/shared/say.js";
+import { readAhead, readDebts, readDrivers } from "/shared/read.js";
+import { leftOf, meters, readForecast } from "/shared/tables.js";
 import { ask, atLogOut, head, link, listTable, momentField, printButton, thisMonth, tool, zoneLine } from "./office.js";
 
 /** @typedef {import("/shared/tables.js").Forecast} Forecast */
@@ -16,21 +17,20 @@ atLogOut.push(() => { chosen = null; });
 /** @type {(again: () => void) => HTMLElement} */
 function startForm(again) {
   const moment = momentField("start-at", say.startAt, startOfDriving());
-  const submit = (event) => {
+  return h("form", { class: "row end no-print", onsubmit: (event) => {
     event.preventDefault();
     if (moment.minute() !== null) { chosen = moment.minute(); again(); }
-  };
-  return h("form", { class: "row end no-print", onsubmit: submit }, moment.node, h("button", {}, say.show));
+  } }, moment.node, h("button", {}, say.show));
 }
 /** @type {() => number} */
 const startOfDriving = () => chosen ?? tomorrow();
 
-/** How many days before the start the last known hour is; null where none is known.
- * @type {(row: Forecast) => number | null} */
-const staleOf = (row) => (row.held === null || row.ahead === null ? null : Math.floor((row.ahead.start - row.held) / DAY));
+/** How many days before the start the last known hour is; Infinity where nothing can be said.
+ * @type {(row: Forecast) => number} */
+const staleOf = (row) => (row.held === null || row.ahead === null ? Infinity : Math.floor((row.ahead.start - row.held) / DAY));
 /** Whether a row says anything.
  * @type {(row: Forecast) => boolean} */
-const isTold = (row) => staleOf(row) !== null && staleOf(row) <= STALE;
+const isTold = (row) => staleOf(row) <= STALE;
 
 /** @type {(value: number | null, least: number) => string} */
 const low = (value, least) => (value !== null && value < least ? "warn-text" : "");
@@ -62,21 +62,22 @@ const twoCell = (left, row) => (left.isYoung
 /** @type {() => import("./office.js").Column[]} */
 function columns() {
   const [driver, held, ...heads] = say.leftCols;
+  /** @type {[(left: any, row: any) => import("./office.js").Content, (left: any, row: any) => string][]} */
   const cells = [
-    [(left) => drivingCell(left), ""],
+    [drivingCell, () => ""],
     [(left) => bare(left.now), (left) => (left.now === BREAK ? "quiet" : low(left.now, BREAK))],
-    [restCell, ""],
+    [restCell, () => ""],
     [(left) => bare(left.week), (left) => low(left.week, LOW)],
     [twoCell, (left) => low(left.two, LOW)],
     [(left) => (left.weekly === null ? "–" : localMoment(left.weekly)),
       (left, row) => (left.weekly !== null && left.weekly - row.ahead.start < DAY ? "warn-text" : "")],
-    [(left, row) => `${row.ahead.reduced}/3 · ${row.ahead.extended}/2`, "quiet"],
+    [(_, row) => `${row.ahead.reduced}/3 · ${row.ahead.extended}/2`, () => "quiet"],
   ];
   return [{ head: driver, cell: (row) => [link(`/drivers/${row.driver}/left`, written(row.name)), h("small", {}, ` ${row.driver}`)] },
     { head: held, kind: "when", cell: heldCell },
     ...cells.map(([cell, kind], k) => ({
-      head: heads[k], kind: "num", kindOf: (row) => (typeof kind === "string" ? kind : kind(leftOf(row.ahead), row)),
-        cell: (row) => cell(leftOf(row.ahead), row),
+      head: heads[k], kind: "num", kindOf: (/** @type {any} */ row) => kind(leftOf(row.ahead), row),
+      cell: (/** @type {any} */ row) => cell(leftOf(row.ahead), row),
     }))];
 }
 
@@ -89,7 +90,6 @@ const untold = (rows) => (rows.length === 0 ? null : [h("h2", {}, say.leftUntold
 
 /** @type {(context: import("./office.js").Context) => Promise<import("./office.js").Content>} */
 async function leftAll({ signal, again }) {
-  const { readForecast } = await import("/shared/tables.js");
   const rows = readForecast(await ask(`/forecast/${textOf(startOfDriving()).replace(" ", "/")}`, signal)), told = rows.filter(isTold);
   return [head(`${say.left}: ${localMoment(startOfDriving(), true)}`, printButton()), startForm(again),
     h("p", { class: "box" }, say.leftAssume),
@@ -109,8 +109,8 @@ const comingBox = (breaches) => (breaches.length === 0 ? null : h("div", { class
   h("ul", {}, breaches.map((one) => h("li", {}, say[one.kind](one.amount), " ", both(one.at))))));
 
 /** What a forecast of one driver says.
- * @type {(ahead: import("/shared/read.js").Ahead, meters: (ahead: any) => HTMLElement) => import("./office.js").Content} */
-function toldOf(ahead, meters) {
+ * @type {(ahead: import("/shared/read.js").Ahead) => import("./office.js").Content} */
+function toldOf(ahead) {
   const days = Math.floor((ahead.start - ahead.held) / DAY);
   if (ahead.not) return warning(say.leftCrew);
   if (isNever(ahead)) return warning(say.noLeft);
@@ -122,14 +122,13 @@ function toldOf(ahead, meters) {
 
 /** @type {(context: import("./office.js").Context) => Promise<import("./office.js").Content>} */
 async function leftOne({ signal, args: [driver], again }) {
-  const { debtsPart, meters } = await import("/shared/parts.js");
   const ahead = readAhead(await ask(`/drivers/${driver}/ahead/${textOf(startOfDriving()).replace(" ", "/")}`, signal)),
     [person] = readDrivers(await ask(`/drivers/${driver}`, signal));
   const debts = readDebts(await ask(`/drivers/${driver}/debts`, signal));
   const title = head([written(person.name), `: ${say.left}`], tool(`/drivers/${driver}/${thisMonth()}`, monthName(thisMonth())),
     printButton());
   const held = isNever(ahead) ? "" : ` · ${say.colHeld} ${both(ahead.held)}`;
-  return [title, startForm(again), h("p", {}, h("b", {}, `${say.startAt}: ${both(ahead.start)}`), held), toldOf(ahead, meters),
+  return [title, startForm(again), h("p", {}, h("b", {}, `${say.startAt}: ${both(ahead.start)}`), held), toldOf(ahead),
     h("p", { class: "note" }, say.leftAssume), h("h2", {}, say.debts), debtsPart(debts)];
 }
 

@@ -3,7 +3,7 @@ import { h, written } from "/shared/page.js";
 import { DAY, now, rangeOf } from "/shared/time.js";
 import { formal, languageNow, localMoment, monthName, say, withLanguage } from "/shared/say.js";
 import { cardOf, readDrivers, readEntries, readFiles, readVersion, readWhy } from "/shared/read.js";
-import { breachItem, isUnfinished } from "/shared/parts.js";
+import { breachItem } from "/shared/parts.js";
 import { ask, button, head, languageField, telling, tool } from "./office.js";
 
 const SENDER = "tacho.sender", LANGUAGE = "tacho.letter.", DAYS_TO_ANSWER = 14, DIGITS = 12, ANSWER_LINES = 3;
@@ -11,6 +11,13 @@ const SENDER = "tacho.sender", LANGUAGE = "tacho.letter.", DAYS_TO_ANSWER = 14, 
 /** The language of a driver's letters.
  * @type {(driver: string) => string} */
 const languageOf = (driver) => localStorage.getItem(LANGUAGE + driver) ?? languageNow();
+
+/** Whether what shows a breach ends in time that isn't known: no letter is written from it.
+ * @type {(breach: import("/shared/read.js").ShownBreach) => boolean} */
+function isUnfinished({ kind, evidence }) {
+  const last = evidence.filter((line) => ["break", "rest", "weekly"].includes(line.word)).at(-1);
+  return ["B1", "B2", "B8"].includes(kind) && last !== undefined && last.past === null;
+}
 
 /** @type {() => { field: HTMLElement, printed: HTMLElement }} the sender: a field, and its text as it is printed */
 function sender() {
@@ -26,10 +33,10 @@ function sender() {
 /** Where the letter's hours come from.
  * @type {(files: any[], entries: any[], program: string) => HTMLElement} */
 function sourceLine(files, entries, program) {
-  const fileText = (file) => `${file.number} (SHA-256 ${file.digest.slice(0, DIGITS)}…)`;
-  const entryText = (one) => `${one.number} (${say[one.activity]}, ${formal(one.start)} ${say.to} ${formal(one.past)})`;
-  return h("p", { class: "note" }, say.letterFiles(files.map(fileText).join(", ") || "–", program),
-    ` ${say.foot}`, entries.length ? ` ${say.letterHand} ${entries.map(entryText).join("; ")}.` : "");
+  const fileTexts = files.map((file) => `${file.number} (SHA-256 ${file.digest.slice(0, DIGITS)}…)`);
+  const entryTexts = entries.map((one) => `${one.number} (${say[one.activity]}, ${formal(one.start)} ${say.to} ${formal(one.past)})`);
+  return h("p", { class: "note" }, say.letterFiles(fileTexts.join(", ") || "–", program),
+    ` ${say.foot}`, entries.length ? ` ${say.letterHand} ${entryTexts.join("; ")}.` : "");
 }
 
 /** The sheet that is printed, in the language that is set. `ofMonth` are the month's entries; evidence may be of earlier months.
@@ -37,7 +44,7 @@ function sourceLine(files, entries, program) {
  *  language: string }) => HTMLElement} */
 function sheetOf({ person, ready, files, entries, ofMonth, program, month, language }) {
   const { field, printed } = sender();
-  const day = (minute) => localMoment(minute, true).slice(0, -6);
+  const day = (/** @type {number} */ minute) => localMoment(minute, true).slice(0, -6);
   return h("article", { class: "sheet", lang: language },
     h("div", { class: "address" }, h("div", {}, field, printed), h("div", {}, `${say.date2}: ${day(now())}`)),
     h("p", {}, written(person.name), h("br"), h("span", { class: "note" }, `${say.cardNo}: ${cardOf(person.holder)}`)),
@@ -53,11 +60,11 @@ function sheetOf({ person, ready, files, entries, ofMonth, program, month, langu
 
 /** @type {(context: import("./office.js").Context) => Promise<import("./office.js").Content>} */
 export async function page({ signal, args: [driver, month], again }) {
-  const at = (what) => ask(`/drivers/${driver}${what}`, signal);
+  const at = (/** @type {string} */ what) => ask(`/drivers/${driver}${what}`, signal);
   const [person] = readDrivers(await at("")), all = readWhy(await at(`/why/${month}`)), files = readFiles(await at("/files")),
     entries = readEntries(await at("/entries"));
   const program = readVersion(await ask("/version", signal)), [first, past] = rangeOf(month);
-  const isWithin = (one) => one.start < past && first < one.past;
+  const isWithin = (/** @type {import("/shared/read.js").Range} */ one) => one.start < past && first < one.past;
   const ready = all.filter((one) => !isUnfinished(one)), language = languageOf(driver);
   const choose = languageField(language, (one) => { localStorage.setItem(LANGUAGE + driver, one); again(); }, { id: "letter-language" });
   return [h("div", { class: "no-print" },

@@ -1,9 +1,9 @@
 // A driver's month.
 import { Problem, h, written } from "/shared/page.js";
 import { monthStep, now, offsetText, rangeOf, zone } from "/shared/time.js";
-import { monthName, say } from "/shared/say.js";
+import { debtsPart, monthName, say } from "/shared/say.js";
 import { readBreaches, readDebts, readEntries, readFiles, readGaps, readSheet, readSpans, readWhy } from "/shared/read.js";
-import { breachItem, chart, debtsPart, gapsPart, notExaminedBox, sheetTable, unseenOf } from "/shared/parts.js";
+import { breachItem, chart, gapsPart, notExaminedBox, sheetTable, unseenOf } from "/shared/parts.js";
 import { ask, head, link, printButton, tool } from "./office.js";
 
 const TURNS = 3, DRIVE = 3;
@@ -60,7 +60,7 @@ export async function page({ signal, args: [driver, month, day] }) {
     entries = readEntries(replies.entries);
   const end = endOf(stretches), unseen = unseenOf(stretches, range);
   const gaps = readGaps(replies.gaps).map((gap) => ({ ...gap, past: Math.min(gap.past, end) })).filter((gap) => gap.start < gap.past);
-  const isThere = (one) => one.start < Math.max(end, now()), days = sheet.days.filter(isThere),
+  const isThere = (/** @type {{ start: number }} */ one) => one.start < Math.max(end, now()), days = sheet.days.filter(isThere),
     later = sheet.days.filter((one) => !isThere(one));
   const seen = range[1] - range[0] - unseen.reduce((sum, one) => sum + one.past - one.start, 0);
   const shown = chart({ spans, gaps, breaches, unseen, days, range });

@@ -1,6 +1,6 @@
 // The frame of the office's pages: the key, the address after #, which names the page, and what several pages use. Each page is a module
 // that is loaded when it is first opened.
-import { $, KEY_FORM, MODULE, Problem, forget, h, keep, key, listed, moduleAt, reading, written } from "/shared/page.js";
+import { $, KEY_FORM, MODULE, Problem, forget, h, isAbort, keep, key, listed, moduleAt, reading, written } from "/shared/page.js";
 import { localText, minutesOfLocal, monthOf, now, offsetText, textOf, zone } from "/shared/time.js";
 import { readVersion } from "/shared/read.js";
 import { LANGUAGES, languageNow, ready, say, speak } from "/shared/say.js";
@@ -85,7 +85,7 @@ export const confirmed = (question, action, other = say.keepIt) => new Promise((
 
 /** A field for a local time. In the hour that autumn repeats it asks which of the two is meant; in the hour that spring leaves out it says
  *  so, and has no minute.
- * @type {(id: string, label: string, start: number | null) => { node: HTMLElement, minute: () => number | null }} */
+ * @type {(id: string, label: string, start: number | null) => { node: HTMLElement, input: HTMLInputElement, minute: () => number | null }} */
 export function momentField(id, label, start) {
   const value = start === null ? "" : localText(start).replace(" ", "T");
   const input = h("input", { type: "datetime-local", id, value, required: true, "aria-describedby": `${id}-which` });
@@ -108,7 +108,8 @@ export function momentField(id, label, start) {
     chosen = minutes.indexOf(start);
     which.querySelectorAll("input")[chosen].checked = true;
   }
-  return { node: h("div", { class: "field" }, h("label", { for: id }, label), input, which), minute: () => minutes[chosen] ?? null };
+  const node = h("div", { class: "field" }, h("label", { for: id }, label), input, which);
+  return { node, input, minute: () => minutes[chosen] ?? null };
 }
 
 // Requests
@@ -187,10 +188,10 @@ function showFrame(to) {
   const isIn = key() !== null;
   const places = [["/", say.start], ["/files", say.cards], ["/left", say.left], [`/month/${thisMonth()}`, say.wholeMonth],
     ["/people", say.people], ["/inspection", say.inspection]];
-  const isAt = (where) => (where === "/" ? to === "/" : to.startsWith(where.startsWith("/month") ? "/month" : where));
+  const isAt = (/** @type {string} */ where) => (where === "/" ? to === "/" : to.startsWith(where.startsWith("/month") ? "/month" : where));
   $("nav").replaceChildren(...(isIn ? places.map(([where, text]) => link(where, text, { "aria-current": isAt(where) ? "page" : null }))
     : []));
-  const change = async (language) => {
+  const change = async (/** @type {string} */ language) => {
     if (!await mayLeave()) { showFrame(to); return; }
     busy(speak(language)).then(() => render(), (fault) => render(notice("bad", sentenceOf(fault))));
   };
@@ -223,7 +224,7 @@ async function contentOf(to, signal, again) {
   const found = PAGES.find(([one]) => one.test(to));
   if (!found) return [head(say.noPage), h("p", {}, link("/", say.start))];
   const module = await moduleAt(`/office/${found[1]}.js`);
-  return module.page({ signal, args: found[0].exec(to).slice(1), again });
+  return module.page({ signal, args: found[0].exec(to)?.slice(1), again });
 }
 
 /** The address of what is shown, or is about to be. */
@@ -257,9 +258,9 @@ async function render(told = null) {
   try {
     made = await busy(contentOf(to, mine.signal, render));
   } catch (fault) {
-    if (fault.name === "AbortError" && mine !== current) return;
-    if (fault.name === "badKey") { dropKey(); return; }
-    const sentence = fault.name === "AbortError" ? say.stopped : sentenceOf(fault);
+    if (isAbort(fault) && mine !== current) return;
+    if (fault instanceof Problem && fault.name === "badKey") { dropKey(); return; }
+    const sentence = isAbort(fault) ? say.stopped : sentenceOf(fault);
     made = [h("h1", { id: "title", class: "hush", tabindex: "-1" }, say.office), notice("bad", sentence),
       button(say.retry, () => again(fault))];
   }
@@ -268,7 +269,7 @@ async function render(told = null) {
   await afterShown(to, mine.signal);
 }
 
-/** @type {(fault: any) => void} repeats a page; where a module couldn't be loaded, some browsers do so only when all is loaded anew */
+/** @type {(fault: any) => unknown} repeats a page; where a module couldn't be loaded, some browsers do so only when all is loaded anew */
 const again = (fault) => (fault.values?.includes(MODULE) ? location.reload() : render());
 
 /** @type {(made: Content, told: Node | null) => void} */
@@ -296,7 +297,7 @@ async function afterShown(to, signal) {
 function showSignIn(told) {
   const input = h("input", { type: "password", id: "key", autocomplete: "off", required: true, "aria-describedby": "key-help" });
   const message = h("div", { role: "alert" }, told);
-  const submit = (event) => {
+  const submit = (/** @type {Event} */ event) => {
     event.preventDefault();
     const value = input.value.replace(/\s/g, "");
     if (!KEY_FORM.test(value)) { message.replaceChildren(notice("bad", say.badKey)); return; }
@@ -346,7 +347,7 @@ document.addEventListener("visibilitychange", leaveIfIdle);
 // The browser may keep the page while another is shown, whose log-out this one knows nothing of.
 addEventListener("pageshow", (event) => { if (event.persisted) logOut(notice("good", say.loggedOut)); });
 addEventListener("beforeunload", (event) => { if (unfinished.size > 0) event.preventDefault(); });
-$("skip").addEventListener("click", (event) => { event.preventDefault(); $("content").focus(); });
+$("skip").addEventListener("click", (/** @type {Event} */ event) => { event.preventDefault(); $("content").focus(); });
 ready.then(() => {
   addEventListener("hashchange", follow);
   render();

@@ -19,6 +19,8 @@ const passedOf = (month) => { const [first, past] = rangeOf(month); return Math.
 /** @type {(name: string) => (row: any) => string} */
 const time = (name) => (row) => (row[name] ? hm(row[name]) : "–");
 /** @type {(name: string) => (row: any) => string} */
+const count = (name) => (row) => (row[name] ? String(row[name]) : "–");
+/** @type {(name: string) => (row: any) => string} */
 const dimIfNone = (name) => (row) => (row[name] ? "" : "quiet dim");
 
 /** The columns; those of rules that nobody broke are left out.
@@ -30,9 +32,7 @@ const columnsOf = (month, total) => [
     .map((name) => ({ head: say.sheetColumns[1 + COLUMNS.indexOf(name)], kind: "num", kindOf: dimIfNone(name), cell: time(name) })),
   { head: say.notExamined, kind: "num", kindOf: (row) => (row.missing > 0 ? "" : "quiet dim"),
     cell: (row) => (row.missing > 0 ? h("span", { class: row.missing > DAY ? "warn-text" : null }, hm(row.missing)) : "–") },
-  ...RULES.filter((rule) => total[rule]).map((rule) => ({
-    head: rule, kind: "num", kindOf: dimIfNone(rule), cell: (row) => (row[rule] ? String(row[rule]) : "–"),
-  })),
+  ...RULES.filter((rule) => total[rule]).map((rule) => ({ head: rule, kind: "num", kindOf: dimIfNone(rule), cell: count(rule) })),
 ];
 
 /** The table of the month, which may have many columns.

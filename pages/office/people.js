@@ -1,16 +1,19 @@
 // The drivers: one or many are added, and a key, base or name is changed. A key is made here, at random, and shown once.
-import { $, h, key, written } from "/shared/page.js";
+import { $, h, isAbort, key, written } from "/shared/page.js";
 import { DAY, dateOf, minuteOf, now, weekdayOf } from "/shared/time.js";
 import { say, utcDay } from "/shared/say.js";
-import { cardOf, holderOf, readDrivers } from "/shared/read.js";
+import { cardOf, readDrivers } from "/shared/read.js";
 import { ask, atLogOut, button, confirmed, head, link, listTable, notice, proposed, telling } from "./office.js";
-import { command, field, isUnsure, refusal } from "./commands.js";
+import { command, field, holderOf, isUnsure, refusal } from "./commands.js";
 
 const LETTERS = "abcdefghijkmnopqrstuvwxyzABCDEFGHJKLMNPQRSTUVWXYZ23456789", KEY_LENGTH = 32, BYTES = 256;
-const PLACE = "tacho.driverspage", FIRST_DAY = "2000-01-03", DAYS_BEFORE = 56, HEAD = ["driver", "holder", "key", "base", "name"];
+const PLACE = "tacho.driverspage", FIRST_DAY = "2000-01-03", DAYS_BEFORE = 56;
 
 /** @typedef {{ name: string, key: string }} Slip */
 /** @typedef {{ driver: string, holder: string, key: string, base: string, name: string }} Registration */
+
+/** @type {(keyof Registration)[]} */
+const HEAD = ["driver", "holder", "key", "base", "name"];
 
 /** The slips that wait to be printed: a page that is shown anew keeps them, a log-out drops them.
  * @type {Slip[]} */
@@ -57,7 +60,7 @@ function slipsPart(again) {
  * @type {(one: Registration) => Promise<{ status: number, line: string }>} */
 async function register(one) {
   if (one.key === key()) return { status: 409, line: "S2 key taken" };
-  const cell = (text) => (/[",\r\n]/.test(text) ? `"${text.replaceAll('"', '""')}"` : text);
+  const cell = (/** @type {string} */ text) => (/[",\r\n]/.test(text) ? `"${text.replaceAll('"', '""')}"` : text);
   const row = HEAD.map((name) => cell(one[name])).join(",");
   const told = await command("/drivers", `${HEAD.join(",")}\n${row}\n`);
   if (told.status === 201) slips.push({ name: one.name, key: one.key });
@@ -77,7 +80,7 @@ async function act(work, expected, said, again) {
     if (line === expected) again(notice("good", said()));
     else again(isUnsure(status) ? notice("warn", say.unsureDone) : notice("bad", refusal(status, line)));
   } catch (fault) {
-    if (fault.name !== "AbortError") again(notice("warn", say.unsureDone));
+    if (!isAbort(fault)) again(notice("warn", say.unsureDone));
   } finally {
     isActing = false;
   }
@@ -123,8 +126,8 @@ const usualBase = () => dateOf(now() - ((weekdayOf(now()) + 6) % 7) * DAY - DAYS
 
 /** @type {(people: any[], again: (notice?: Node) => void) => HTMLElement} the form for one driver */
 function addForm(people, again) {
-  const at = (id) => $(id).value.trim(), person = proposed.person;
-  const submit = (event) => {
+  const at = (/** @type {string} */ id) => $(id).value.trim(), person = proposed.person;
+  const submit = (/** @type {Event} */ event) => {
     event.preventDefault();
     const one = { driver: at("f-number"), holder: at("f-holder"), key: newKey(), base: at("f-base"), name: at("f-name") };
     act(async () => {
@@ -133,14 +136,15 @@ function addForm(people, again) {
       return told;
     }, `registered ${one.driver}`, () => telling((who) => say.addedDriver(who, one.driver), one.name), again);
   };
-  const fromFile = async (event) => {
-    const whose = holderOf(await event.target.files[0].arrayBuffer());
-    $("f-file-told").textContent = whose ? "" : say.noCard(event.target.files[0].name);
+  const fromFile = async (/** @type {File} */ file) => {
+    const whose = holderOf(await file.arrayBuffer());
+    $("f-file-told").textContent = whose ? "" : say.noCard(file.name);
     if (whose) { $("f-name").value = whose.name; $("f-holder").value = whose.holder; }
   };
   return h("form", { class: "row end", id: "add", onsubmit: submit },
     h("div", { class: "field" }, h("label", { for: "f-file" }, say.fromFile),
-      h("input", { id: "f-file", type: "file", onchange: fromFile }), h("span", { id: "f-file-told", class: "warn-text", role: "status" })),
+      h("input", { id: "f-file", type: "file", onchange: (event) => fromFile(event.target.files[0]) }),
+      h("span", { id: "f-file-told", class: "warn-text", role: "status" })),
     field("f-number", say.number, { type: "number", min: 1, max: 999999, value: Math.max(0, ...people.map((one) => one.number)) + 1 }),
     field("f-name", say.fullName, { value: person?.name ?? "" }),
     field("f-holder", say.card, { pattern: "[0-9a-f]{30}", size: 32, title: say.cardForm, value: person?.holder ?? "" }),
@@ -153,14 +157,17 @@ function addForm(people, again) {
 /** The records of CSV as an office writes it (docs/FORMATS.md, 'CSV'); a semicolon may stand between fields.
  * @type {(text: string) => string[][]} */
 function readRecords(text) {
+  /** @type {string[][]} */
   const records = [];
-  let fields = [], at = text.startsWith("\ufeff") ? 1 : 0;
+  /** @type {string[]} */
+  let fields = [];
+  let at = text.startsWith("\ufeff") ? 1 : 0;
   const between = /^[^\r\n,]*;/.test(text.slice(at)) ? ";" : ",";
   const end = () => { if (fields.length > 1 || fields[0] !== "") records.push(fields); fields = []; };
   while (at < text.length) {
     const quoted = text[at] === '"' ? /^"((?:[^"]|"")*)(?:"|$)/.exec(text.slice(at)) : null;
     at += quoted ? quoted[0].length : 0;
-    const rest = new RegExp(`^[^\r\n${between}]*`).exec(text.slice(at))[0];
+    const rest = (new RegExp(`^[^\r\n${between}]*`).exec(text.slice(at)) ?? [""])[0];
     at += rest.length;
     fields.push((quoted ? quoted[1].replaceAll('""', '"') : "") + rest);
     if (text[at] === between) { at += 1; if (at === text.length) fields.push(""); continue; }
@@ -175,7 +182,7 @@ function readRecords(text) {
  * @type {(text: string) => Registration[] | null} */
 function registrationsOf(text) {
   const [columns, ...rows] = readRecords(text);
-  const isHead = (names) => [...names].sort().join() === [...HEAD].sort().join();
+  const isHead = (/** @type {string[]} */ names) => [...names].sort().join() === [...HEAD].sort().join();
   if (!columns || !(isHead(columns) || isHead([...columns, "key"]))) return null;
   return rows.map((row) => {
     const cells = Object.fromEntries(HEAD.map((name) => [name, row[columns.indexOf(name)] ?? ""]));
@@ -189,7 +196,8 @@ async function addMany(file, list, again) {
   const all = registrationsOf(await file.text());
   if (all === null) { list.replaceChildren(h("li", { class: "bad" }, h("span", {}, say.csvHead(HEAD.join(","))))); return; }
   let added = 0;
-  const waiting = (one) => h("li", {}, h("span", {}, telling((who) => say.waiting(`${one.driver} ${who}`), one.name)));
+  const waiting = (/** @type {Registration} */ one) =>
+    h("li", {}, h("span", {}, telling((who) => say.waiting(`${one.driver} ${who}`), one.name)));
   const items = all.map((one) => list.appendChild(waiting(one)));
   for (const [k, one] of all.entries()) {
     const { status, line } = await register(one).catch(() => ({ status: 0, line: "" }));

@@ -1,9 +1,8 @@
 // The start page: all drivers, most urgent first. What is left comes later, into cells that are there already.
-import { h, written } from "/shared/page.js";
+import { h, listed, written } from "/shared/page.js";
 import { DAY, localText, monthStep, now, textOf, tomorrow } from "/shared/time.js";
 import { daysSince, length, localMoment, localTime, monthName, say } from "/shared/say.js";
-import { readForecast, readStanding } from "/shared/tables.js";
-import { leftOf } from "/shared/read.js";
+import { leftOf, readForecast, readStanding } from "/shared/tables.js";
 import { ask, button, head, link, listRow, listTable, printButton, thisMonth, zoneLine } from "./office.js";
 
 const OVERDUE = 28, SOON = 21, GONE = 56, FEW_DAYS = 10, STALE = 4;
@@ -11,9 +10,9 @@ const OVERDUE = 28, SOON = 21, GONE = 56, FEW_DAYS = 10, STALE = 4;
 /** @typedef {import("/shared/tables.js").Standing} Standing */
 /** @typedef {{ level: "bad" | "warn" | "look" | "good", text: string, to: string, by: number, rank: number }} Task */
 
-/** How many days ago the last known hour was.
- * @type {(row: Standing) => number | null} */
-const ageOf = (row) => (row.held === null ? null : daysSince(row.held, now()));
+/** How many days ago the last known hour was; 0 where none is known.
+ * @type {(row: Standing) => number} */
+const ageOf = (row) => (row.held === null ? 0 : daysSince(row.held, now()));
 /** Whether the driver may have left: nothing records that.
  * @type {(row: Standing) => boolean} */
 const mayHaveLeft = (row) => row.held !== null && ageOf(row) > GONE;
@@ -66,9 +65,9 @@ const dimIf = (isEmpty) => (row) => (isEmpty(row) ? "quiet dim" : "");
 /** @type {(leftCells: Map<number, HTMLElement>) => import("./office.js").Column[]} */
 function columnsOf(leftCells) {
   const month = thisMonth(), before = monthStep(month, -1);
-  const breachesOf = (name, which) => ({
+  const breachesOf = (/** @type {"last_month" | "breaches"} */ name, /** @type {string} */ which) => ({
     head: say.colBreaches(monthName(which).split(" ")[0]), kind: "num", kindOf: dimIf((row) => row[name] === 0),
-    cell: (row) => (row[name] ? link(`/drivers/${row.driver}/${which}`, String(row[name])) : "–"),
+    cell: (/** @type {Standing} */ row) => (row[name] ? link(`/drivers/${row.driver}/${which}`, String(row[name])) : "–"),
   });
   return [
     { head: say.colDriver, cell: (row) => [link(`/drivers/${row.driver}/${month}`, written(row.name)), h("small", {}, ` ${row.driver}`)] },
@@ -89,7 +88,7 @@ function columnsOf(leftCells) {
 function leftText(row) {
   if (row.held === null || row.ahead === null || row.ahead.start - row.held > STALE * DAY) return "–";
   const left = leftOf(row.ahead);
-  const least = Math.min(...[left.day, left.week, left.isYoung ? null : left.two].filter((one) => one !== null));
+  const least = Math.min(...[left.day, left.week, left.isYoung ? null : left.two].map((one) => one ?? Infinity));
   return [link(`/drivers/${row.driver}/left`, length(least)), left.isYoung ? h("small", {}, ` ${say.twoUnknown}`) : null];
 }
 
@@ -98,7 +97,7 @@ function leftText(row) {
 async function fillLeft(cells, signal) {
   try {
     const rows = readForecast(await ask(`/forecast/${textOf(tomorrow()).replace(" ", "/")}`, signal));
-    for (const row of rows) cells.get(row.driver)?.replaceChildren(...[leftText(row)].flat().filter((one) => one !== null));
+    for (const row of rows) cells.get(row.driver)?.replaceChildren(...listed([leftText(row)]));
   } catch {
     cells.forEach((cell) => cell.replaceChildren("?"));
   }
@@ -126,7 +125,7 @@ function sums(rows, show) {
 const goneList = (rows) => (rows.length === 0 ? null : h("details", { class: "gone" }, h("summary", {}, say.gone(rows.length, GONE)),
   h("p", { class: "note" }, say.goneWhy),
   h("ul", {}, rows.map((row) => h("li", {}, link(`/drivers/${row.driver}/${thisMonth()}`, written(row.name)),
-    ` (${row.driver}) · ${say.colHeld} `, localMoment(row.held, true))))));
+    ` (${row.driver}) · ${say.colHeld} `, localMoment(/** @type {number} */ (row.held), true))))));
 
 /** @type {(context: import("./office.js").Context) => Promise<import("./office.js").Content>} */
 export async function page({ signal, again }) {
@@ -135,7 +134,7 @@ export async function page({ signal, again }) {
   rows.sort((a, b) => a.task.rank - b.task.rank || a.task.by - b.task.by || a.driver - b.driver);
   const leftCells = new Map(rows.map((row) => [row.driver, h("span", { class: "v" }, "…")]));
   const columns = columnsOf(leftCells), body = h("tbody", { role: "rowgroup" }), count = h("p", { class: "note", role: "status" });
-  const show = (chosen) => {
+  const show = (/** @type {string} */ chosen) => {
     const shown = rows.filter(FILTERS[chosen]);
     body.replaceChildren(...shown.map((row) => listRow(columns, row)));
     count.textContent = say.showing(shown.length, rows.length);

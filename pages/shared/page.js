@@ -6,8 +6,9 @@ const SVG = "http://www.w3.org/2000/svg";
 
 /**
  * What an element can have in it. Lists may be nested; null, undefined and false are left out, so that a part can be left out in place.
- * @typedef {Node | string | null | undefined | false | Child[]} Child
+ * @typedef {Node | string | null | undefined | false | Children} Child
  */
+/** @typedef {{ [at: number]: Child, length: number }} Children */
 
 /**
  * The attributes of an element by their names. `true` is an attribute without a value; null, undefined and false are none. A name that
@@ -129,6 +130,15 @@ export class Problem extends Error {
   }
 }
 
+/**
+ * Whether a request was given up.
+ * @param {unknown} fault
+ * @returns {boolean}
+ */
+export function isAbort(fault) {
+  return fault instanceof Error && fault.name === "AbortError";
+}
+
 /** The sentences on statuses that aren't from a command. */
 const TOLD = new Map([[403, "badKey"], [429, "tooOften"], [502, "isDown"], [503, "isDown"], [504, "isDown"]]);
 
@@ -161,7 +171,7 @@ function change(by) {
 /** How long a reading waits for its reply, in milliseconds. The service gives a client 30 seconds. */
 const PATIENCE = 35000;
 
-/** Each begins the wait of a reading anew. @type {Set<() => void>} */
+/** @type {Set<() => void>} Each begins the wait of a reading anew. */
 const waits = new Set();
 
 /**
@@ -207,7 +217,7 @@ async function asked(path, { method = "GET", body, signal, key: other }, take) {
     if (isLate) {
       throw new Problem("isDown");
     }
-    throw /** @type {Error} */ (fault).name === "AbortError" ? fault : new Problem("noConnection");
+    throw isAbort(fault) ? fault : new Problem("noConnection");
   } finally {
     stop();
     if (!isLate) {

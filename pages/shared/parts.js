@@ -1,26 +1,17 @@
-// Parts that both pages show: breaches with their evidence, the chart, the sheet, debts, gaps, what isn't examined, and what is left.
+// Parts of a month that both pages show: breaches with their evidence, what isn't examined, the chart, the sheet, and gaps.
 import { h, svg } from "./page.js";
-import { ARTICLES, leftOf } from "./read.js";
-import { amountText, both, bothTimes, formal, hm, length, localMoment, localTime, say, shortFormal, shortUtcDay, utcDay, utcTime }
+import { ARTICLES } from "./read.js";
+import { amountText, both, bothTimes, formal, hm, length, localMoment, say, shortFormal, shortUtcDay, undivided, utcDay, utcTime }
   from "./say.js";
 import { DAY, dateOf, offsetText, weekdayOf } from "./time.js";
 
-/** @import { Ahead, Breach, CardFile, Day, Debt, Entry, Evidence, Range, ShownBreach, Span, Stretch } from "./read.js" */
+/** @import { Breach, Day, Entry, Evidence, Range, ShownBreach, Span, Stretch } from "./read.js" */
 /** @typedef {Range & {cause: string, from: number}} Unseen what isn't examined, why, and from when on it is examined again */
 
 // Breaches
 
 /** The minutes that a rule allows, of the rules that add driving up. */
 const LIMITS = new Map([["B1", 270], ["B4", 600], ["B5", 540], ["B6", 3360], ["B7", 5400]]);
-
-/**
- * A sentence whose lengths, such as '4 h 30', no end of a line divides.
- * @param {string} text
- * @returns {string}
- */
-export function undivided(text) {
-  return text.replace(/(\d) (h|min|minutes|Minuten)\b/g, "$1\u00a0$2").replace(/(h) (\d\d)\b/g, "$1\u00a0$2");
-}
 
 /**
  * What stands in the last column of a line of evidence, in words.
@@ -177,16 +168,6 @@ export function breachItem(breach, { entries, open = false, formalTimes = false,
       : h("div", { class: "foot" }, limits(moment(at)), folded));
 }
 
-/**
- * Whether what shows a breach ends in time that isn't known: no letter is written from it.
- * @param {ShownBreach} breach
- * @returns {boolean}
- */
-export function isUnfinished({ kind, evidence }) {
-  const last = evidence.filter((line) => ["break", "rest", "weekly"].includes(line.word)).at(-1);
-  return ["B1", "B2", "B8"].includes(kind) && last !== undefined && last.past === null;
-}
-
 // What isn't examined
 
 /**
@@ -269,7 +250,7 @@ export function notExaminedBox(stretches, range, end = 0, gaps = [], form = null
 
 // The chart
 
-/** The heights of the bars, of 24: they tell the activities apart without colours. @type {Record<string, number>} */
+/** @type {Record<string, number>} The heights of the bars, of 24: they tell the activities apart without colours. */
 const HEIGHTS = { rest: 7, available: 12, work: 17, drive: 24 };
 const HOURS = [0, 6, 12, 18, 24];
 
@@ -456,32 +437,7 @@ export function sheetTable({ days, total, later = [] }) {
     h("tfoot", {}, h("tr", {}, h("th", { scope: "row" }, say.wholeMonth), total.map(cell)))));
 }
 
-// Debts and gaps
-
-/**
- * The rest that is to be made up, and below it the rest that was. Where the examination broke off, it isn't known what became of a debt.
- * @param {Array<Stretch<Debt>>} stretches
- * @returns {import("./page.js").Child}
- */
-export function debtsPart(stretches) {
-  const last = stretches.at(-1);
-  const open = last === undefined ? [] : last.items.filter((debt) => debt.end !== "paid");
-  const before = stretches.slice(0, -1).flatMap((one) => one.items);
-  const broken = before.filter((debt) => debt.end === "open" && debt.by > (last?.horizon ?? 0));
-  const paid = stretches.flatMap((one) => one.items).filter((debt) => debt.end === "paid").reverse();
-  const item = (/** @type {Debt} */ debt, /** @type {string} */ sentence, /** @type {string} */ kind) =>
-    h("li", { class: kind }, undivided(say[sentence](utcDay(debt.week), length(debt.owes), both(debt.by))));
-  const items = [
-    ...open.map((debt) => (debt.end === "late" ? item(debt, "debtLate", "box bad") : item(debt, "debt", "box warn"))),
-    ...broken.map((debt) => item(debt, "debtBroken", "box warn")),
-  ];
-  const paidItem = (/** @type {Debt} */ debt) =>
-    h("li", {}, undivided(say.debtWas(utcDay(debt.week), length(debt.owes), both(/** @type {number} */ (debt.at)))));
-  return [
-    items.length > 0 ? h("ul", { class: "list" }, items) : h("p", {}, say.noDebts),
-    paid.length > 0 ? h("details", {}, h("summary", {}, say.debtPaid(paid.length)), h("ul", {}, paid.slice(0, 12).map(paidItem))) : null,
-  ];
-}
+// Gaps
 
 /**
  * The gaps.
@@ -494,57 +450,4 @@ export function gapsPart(gaps) {
   }
   const text = (/** @type {Range} */ { start, past }) => `${both(start)} ${say.to} ${both(past)} · ${length(past - start)}`;
   return h("ul", {}, gaps.map((gap) => h("li", {}, text(gap))));
-}
-
-// What is left
-
-/**
- * A field with what is left: a length with a bar, or a moment.
- * @param {string} value
- * @param {string} text
- * @param {{left: number, most: number, isFirst?: boolean} | null} [amount] null for a moment
- * @returns {HTMLElement}
- */
-function meter(value, text, amount = null) {
-  if (amount === null) {
-    return h("li", { class: "meter moment" }, h("b", {}, value), h("span", {}, undivided(text)));
-  }
-  const { left, most, isFirst } = amount;
-  const part = Math.max(0, Math.min(100, 100 * left / most));
-  return h("li", { class: `meter${part < 10 ? " low" : ""}${isFirst ? " first" : ""}` }, h("b", {}, value), h("span", {}, undivided(text)),
-    svg("svg", { viewBox: "0 0 100 4", preserveAspectRatio: "none", "aria-hidden": "true" },
-      svg("rect", { class: "full", width: 100, height: 4 }), svg("rect", { class: "used", width: part, height: 4 })));
-}
-
-/**
- * What is left, in fields.
- * @param {Ahead} ahead
- * @returns {HTMLElement}
- */
-export function meters(ahead) {
-  const left = leftOf(ahead);
-  const made = [];
-  if (left.now !== null) {
-    made.push(meter(length(left.now), say.leftBreak, { left: left.now, most: 270, isFirst: true }));
-  }
-  if (left.day !== null) {
-    const [text, most] = left.nine ? [say.leftDay9, 540] : [say.leftDay, 600];
-    made.push(meter(length(left.day), text, { left: left.day, most, isFirst: true }));
-  }
-  if (left.long !== null && left.needsLong) {
-    made.push(meter(localMoment(left.long), say.leftLong));
-  } else if (left.rest !== null && left.long !== null) {
-    made.push(meter(localMoment(left.rest), left.long >= ahead.start ? say.leftRest(localTime(left.long)) : say.leftShort));
-  }
-  if (left.week !== null) {
-    const driven = say.driven(hm(left.weekDrive ?? 0));
-    made.push(meter(length(left.week), `${say.leftWeek} (${driven} ${say.of} 56:00)`, { left: left.week, most: 3360 }));
-  }
-  if (left.two !== null && !left.isYoung) {
-    made.push(meter(length(left.two), `${say.leftTwo} (${say.driven(hm(left.twoDrive))} ${say.of} 90:00)`, { left: left.two, most: 5400 }));
-  }
-  if (left.weekly !== null) {
-    made.push(meter(localMoment(left.weekly), say.leftWeekly));
-  }
-  return h("ul", { class: "meters" }, made);
 }

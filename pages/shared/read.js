@@ -52,7 +52,7 @@ const ACTIVITY = "(rest|available|work|drive)";
 // Of a name, an author or a note. Their lengths are limited in bytes; see `textIn`.
 const PLAIN = String.raw`([^\x00-\x1f\x7f",]*)`;
 
-/** The Article of each kind of breach. @type {Record<string, string>} */
+/** @type {Record<string, string>} The Article of each kind of breach. */
 export const ARTICLES = {
   B1: "7", B2: "8(2)", B3: "8(4)", B4: "6(1)", B5: "6(1)", B6: "6(2)", B7: "6(3)", B8: "8(6)", B9: "8(6)", B10: "8(6b)",
 };
@@ -257,6 +257,7 @@ function horizonOf(line) {
  */
 function stretchesOf(text, itemOf, inOrder) {
   const lines = linesOf(text);
+  /** @type {Array<Stretch<T>>} */
   const made = [];
   must(lines.length > 0);
   for (let at = 0; at < lines.length;) {
@@ -314,7 +315,7 @@ export function readDebts(text) {
  * @param {string} start
  * @param {string} past
  * @param {string} length
- * @returns {Evidence}
+ * @returns {Omit<Evidence, "word">}
  */
 function runOf(start, past, length) {
   const isOpen = start === "-" || past === "-";
@@ -336,7 +337,7 @@ function lengthIn(text, minutes) {
 
 /**
  * The lines of evidence, each under a letter: the word, the rest of the line, and what is made of its parts.
- * @type {Record<string, [string, string, (...parts: string[]) => object]>}
+ * @type {Record<string, [string, string, (...parts: string[]) => Omit<Evidence, "word">]>}
  */
 const LINES = {
   b: ["break", RUN, runOf],
@@ -368,7 +369,7 @@ const LINES = {
 };
 const LINE_FORMS = Object.fromEntries(Object.entries(LINES).map(([letter, [word, rest]]) => [letter, form(`${word} ${rest}`)]));
 
-/** The order of the lines of each rule, by their letters. @type {Record<string, RegExp>} */
+/** @type {Record<string, RegExp>} The order of the lines of each rule, by their letters. */
 const ORDERS = {
   B1: /^b[dr]*d[dr]*b$/, B2: /^ylr*p$/, B3: /^wk+$/, B4: /^yd+$/, B5: /^Wn+d+$/, B6: /^Wt+d+t*$/, B7: /^Dt*(?:td+t*)?Dt*(?:td+t*)?$/,
   B8: /^ww$/, B9: /^f[Wz]+i*$/, B10: /^Omo*$/,
@@ -629,40 +630,6 @@ export function readAhead(text) {
   };
 }
 
-/**
- * What is left, from a forecast: how much driving until the next break, in the day, in the week and in two weeks, and when the daily and
- * the weekly rest have to begin at the latest. Null: no limit is reached.
- * @param {Pick<Ahead, "kinds" | "start" | "from" | "weeks" | "reduced">} ahead
- * @returns {{now: number | null, day: number | null, nine: boolean, week: number | null, two: number | null, rest: number | null,
- *   long: number | null, needsLong: boolean, weekly: number | null, isYoung: boolean, weekDrive: number | null, twoDrive: number}}
- */
-export function leftOf({ kinds, start, from, weeks }) {
-  const left = (/** @type {string} */ kind) => kinds[kind]?.left ?? null;
-  const until = (/** @type {string} */ kind) => kinds[kind]?.until ?? null;
-  const least = (/** @type {Array<number | null>} */ all) => {
-    const known = /** @type {number[]} */ (all.filter((one) => one !== null));
-    return known.length > 0 ? Math.min(...known) : null;
-  };
-  const [ten, nine, rest, long] = [left("B4"), left("B5"), until("B2"), until("B3")];
-  return {
-    now: left("B1"),
-    day: least([ten, nine]),
-    // Whether the two days of the week with more than nine hours are used.
-    nine: nine !== null && (ten === null || nine < ten),
-    week: left("B6"),
-    two: left("B7"),
-    rest,
-    // B3 is reached once the three reduced rests are used: then the rest of eleven hours has to begin in time.
-    long: long ?? (rest === null ? null : rest - 120),
-    needsLong: long !== null && (rest === null || long <= rest),
-    weekly: least([until("B8"), until("B9")]),
-    // What was driven in the week before isn't known.
-    isYoung: from > weekOf(start) - 7 * DAY,
-    weekDrive: weeks.at(-1)?.drive ?? null,
-    twoDrive: weeks.reduce((sum, one) => sum + one.drive, 0),
-  };
-}
-
 // Cards
 
 /** The states of Annex IC, by the first byte of a holder. */
@@ -677,36 +644,4 @@ const STATES = ("- A AL AND ARM AZ B BG BIH BY CH CY CZ D DK E EST F FIN FL FR U
 export function cardOf(holder) {
   const [state, ...signs] = (holder.match(/../g) ?? []).map((pair) => parseInt(pair, 16));
   return `${STATES[state] ?? holder.slice(0, 2)} ${String.fromCharCode(...signs)}..`;
-}
-
-/**
- * A name in a card file: 35 bytes in a code page of ISO 8859.
- * @param {ArrayBuffer} file
- * @param {number} at where the code page stands; the name follows
- * @returns {string}
- */
-function nameIn(file, at) {
-  const page = new DataView(file).getUint8(at);
-  // There are no other parts of ISO 8859.
-  const part = page > 0 && page <= 16 && page !== 12 ? page : 1;
-  return new TextDecoder(`iso-8859-${part}`).decode(new Uint8Array(file, at + 1, 35)).replace(/[\0 ]+$/, "");
-}
-
-/**
- * Whose a card file is, by its EF Identification (0520) of either generation. Nothing is judged by it: the archive reads the file itself.
- * @param {ArrayBuffer} file
- * @returns {{holder: string, name: string} | null}
- */
-export function holderOf(file) {
-  const view = new DataView(file);
-  for (let at = 0; at + 5 <= view.byteLength;) {
-    const [id, kind, size] = [view.getUint16(at), view.getUint8(at + 2), view.getUint16(at + 3)];
-    const start = at + 5;
-    if (id === 0x0520 && (kind === 0 || kind === 2) && size >= 143 && start + 143 <= view.byteLength) {
-      const holder = [...new Uint8Array(file, start, 15)].map((one) => one.toString(16).padStart(2, "0")).join("");
-      return { holder, name: `${nameIn(file, start + 101)} ${nameIn(file, start + 65)}`.trim() };
-    }
-    at = start + size;
-  }
-  return null;
 }

@@ -1,12 +1,12 @@
-// The language, and how times and lengths are said in it. Its sentences are in two files, words-en.js or words-de.js: those of both pages
-// in shared/, the others in the page's own folder. Only the files of the language that is shown are loaded.
-import { moduleAt } from "./page.js";
+// The language, and how times, lengths and debts are said in it. Its sentences are in two files, words-en.js or words-de.js: those of both
+// pages in shared/, the others in the page's own folder. Only the files of the language that is shown are loaded.
+import { h, moduleAt } from "./page.js";
 import { DAY, dateOf, localText, minuteOf, textOf, weekdayOf } from "./time.js";
 
 /** Where the language is kept: in localStorage, since it is no secret and holds for all visits. */
 const PLACE = "tacho.language";
 
-/** The languages that there are, each with its own name. @type {Array<[string, string]>} */
+/** @type {Array<[string, string]>} The languages that there are, each with its own name. */
 export const LANGUAGES = [["en", "English"], ["de", "Deutsch"]];
 
 /**
@@ -31,7 +31,7 @@ async function wordsOf(language) {
 
 let language = firstLanguage();
 
-/** The sentences of the present language. There are none before `ready`. @type {Record<string, any>} */
+/** @type {Record<string, any>} The sentences of the present language. There are none before `ready`. */
 export let say = {};
 
 /** A page waits for this before it shows anything. */
@@ -234,6 +234,15 @@ export function daysSince(minute, present) {
   return Math.floor((dayOf(present) - dayOf(minute - 1)) / DAY);
 }
 
+/**
+ * A sentence whose lengths, such as '4 h 30', no end of a line divides.
+ * @param {string} text
+ * @returns {string}
+ */
+export function undivided(text) {
+  return text.replace(/(\d) (h|min|minutes|Minuten)\b/g, "$1\u00a0$2").replace(/(h) (\d\d)\b/g, "$1\u00a0$2");
+}
+
 // Breaches
 
 /** The sentences on the amount of a breach; of the other kinds it is how much is over the limit. */
@@ -249,4 +258,33 @@ export function amountText({ kind, amount }) {
     return "";
   }
   return kind === "B3" ? `+${amount}` : say[AMOUNTS.get(kind) ?? "overBy"](length(amount));
+}
+
+// Debts
+
+/** @import { Debt } from "./read.js" */
+
+/**
+ * The rest that is to be made up, and below it the rest that was. Where the examination broke off, it isn't known what became of a debt.
+ * @param {Array<import("./read.js").Stretch<Debt>>} stretches
+ * @returns {import("./page.js").Child}
+ */
+export function debtsPart(stretches) {
+  const last = stretches.at(-1);
+  const open = last === undefined ? [] : last.items.filter((debt) => debt.end !== "paid");
+  const before = stretches.slice(0, -1).flatMap((one) => one.items);
+  const broken = before.filter((debt) => debt.end === "open" && debt.by > (last?.horizon ?? 0));
+  const paid = stretches.flatMap((one) => one.items).filter((debt) => debt.end === "paid").reverse();
+  const item = (/** @type {Debt} */ debt, /** @type {string} */ sentence, /** @type {string} */ kind) =>
+    h("li", { class: kind }, undivided(say[sentence](utcDay(debt.week), length(debt.owes), both(debt.by))));
+  const items = [
+    ...open.map((debt) => (debt.end === "late" ? item(debt, "debtLate", "box bad") : item(debt, "debt", "box warn"))),
+    ...broken.map((debt) => item(debt, "debtBroken", "box warn")),
+  ];
+  const paidItem = (/** @type {Debt} */ debt) =>
+    h("li", {}, undivided(say.debtWas(utcDay(debt.week), length(debt.owes), both(/** @type {number} */ (debt.at)))));
+  return [
+    items.length > 0 ? h("ul", { class: "list" }, items) : h("p", {}, say.noDebts),
+    paid.length > 0 ? h("details", {}, h("summary", {}, say.debtPaid(paid.length)), h("ul", {}, paid.slice(0, 12).map(paidItem))) : null,
+  ];
 }

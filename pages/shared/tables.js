@@ -1,8 +1,10 @@
-// What the replies in CSV say (docs/FORMATS.md): a row for each driver, or for each breach. A text of another form is a problem.
-import { Problem } from "./page.js";
-import { minuteOf } from "./time.js";
+// What the replies in CSV say (docs/FORMATS.md): a row for each driver, or for each breach. A text of another form is a problem. Below them:
+// what is left, by a forecast.
+import { Problem, h, svg } from "./page.js";
+import { hm, length, localMoment, localTime, say, undivided } from "./say.js";
+import { DAY, minuteOf, weekOf } from "./time.js";
 
-const DAY = /^\d{4}-\d\d-\d\d$/, MOMENT = /^\d{4}-\d\d-\d\d \d\d:\d\d$/, NUMBER = /^\d+$/;
+const DATE = /^\d{4}-\d\d-\d\d$/, MOMENT = /^\d{4}-\d\d-\d\d \d\d:\d\d$/, NUMBER = /^\d+$/;
 const RULES = ["B1", "B2", "B3", "B4", "B5", "B6", "B7", "B8", "B9"];
 
 /** @type {(form: RegExp, read: (text: string) => any) => (text: string) => any} reads a cell that has a form */
@@ -10,12 +12,12 @@ const cell = (form, read) => (text) => {
   if (!form.test(text)) throw new Problem("unreadable");
   return read(text);
 };
-const number = cell(NUMBER, Number), day = cell(DAY, minuteOf), moment = cell(MOMENT, minuteOf), word = (text) => text;
+const number = cell(NUMBER, Number), day = cell(DATE, minuteOf), moment = cell(MOMENT, minuteOf), word = String;
 /** @type {(read: (text: string) => any) => (text: string) => any} a cell that may be empty */
 const orNone = (read) => (text) => (text === "" ? null : read(text));
 
 /** The rows of a text with given columns: how each is named and read.
- * @type {(text: string, columns: Record<string, (text: string) => any>) => Record<string, any>[]} */
+ * @type {(text: string, columns: Record<string, (text: string) => any>) => any[]} */
 function rowsOf(text, columns) {
   const names = Object.keys(columns);
   const [head, ...rows] = text.split("\n");
@@ -70,3 +72,88 @@ export const readIncidents = (text) => rowsOf(text, {
   driver: number, name: word, kind: cell(/^B([1-9]|10)$/, String), article: cell(/^Art \S+$/, String), moment, since: moment,
     amount: number,
 });
+
+// What is left
+
+/**
+ * What is left, from a forecast: how much driving until the next break, in the day, in the week and in two weeks, and when the daily and
+ * the weekly rest have to begin at the latest. Null: no limit is reached.
+ * @param {Pick<import("./read.js").Ahead, "kinds" | "start" | "from" | "weeks" | "reduced">} ahead
+ */
+export function leftOf({ kinds, start, from, weeks }) {
+  const left = (/** @type {string} */ kind) => kinds[kind]?.left ?? null;
+  const until = (/** @type {string} */ kind) => kinds[kind]?.until ?? null;
+  const least = (/** @type {Array<number | null>} */ all) => {
+    const known = /** @type {number[]} */ (all.filter((one) => one !== null));
+    return known.length > 0 ? Math.min(...known) : null;
+  };
+  const [ten, nine, rest, long] = [left("B4"), left("B5"), until("B2"), until("B3")];
+  return {
+    now: left("B1"),
+    day: least([ten, nine]),
+    // Whether the two days of the week with more than nine hours are used.
+    nine: nine !== null && (ten === null || nine < ten),
+    week: left("B6"),
+    two: left("B7"),
+    rest,
+    // B3 is reached once the three reduced rests are used: then the rest of eleven hours has to begin in time.
+    long: long ?? (rest === null ? null : rest - 120),
+    needsLong: long !== null && (rest === null || long <= rest),
+    weekly: least([until("B8"), until("B9")]),
+    // What was driven in the week before isn't known.
+    isYoung: from > weekOf(start) - 7 * DAY,
+    weekDrive: weeks.at(-1)?.drive ?? null,
+    twoDrive: weeks.reduce((sum, one) => sum + one.drive, 0),
+  };
+}
+
+/**
+ * A field with what is left: a length with a bar, or a moment.
+ * @param {string} value
+ * @param {string} text
+ * @param {{left: number, most: number, isFirst?: boolean} | null} [amount] null for a moment
+ * @returns {HTMLElement}
+ */
+function meter(value, text, amount = null) {
+  if (amount === null) {
+    return h("li", { class: "meter moment" }, h("b", {}, value), h("span", {}, undivided(text)));
+  }
+  const { left, most, isFirst } = amount;
+  const part = Math.max(0, Math.min(100, 100 * left / most));
+  return h("li", { class: `meter${part < 10 ? " low" : ""}${isFirst ? " first" : ""}` }, h("b", {}, value), h("span", {}, undivided(text)),
+    svg("svg", { viewBox: "0 0 100 4", preserveAspectRatio: "none", "aria-hidden": "true" },
+      svg("rect", { class: "full", width: 100, height: 4 }), svg("rect", { class: "used", width: part, height: 4 })));
+}
+
+/**
+ * What is left, in fields.
+ * @param {import("./read.js").Ahead} ahead
+ * @returns {HTMLElement}
+ */
+export function meters(ahead) {
+  const left = leftOf(ahead);
+  const made = [];
+  if (left.now !== null) {
+    made.push(meter(length(left.now), say.leftBreak, { left: left.now, most: 270, isFirst: true }));
+  }
+  if (left.day !== null) {
+    const [text, most] = left.nine ? [say.leftDay9, 540] : [say.leftDay, 600];
+    made.push(meter(length(left.day), text, { left: left.day, most, isFirst: true }));
+  }
+  if (left.long !== null && left.needsLong) {
+    made.push(meter(localMoment(left.long), say.leftLong));
+  } else if (left.rest !== null && left.long !== null) {
+    made.push(meter(localMoment(left.rest), left.long >= ahead.start ? say.leftRest(localTime(left.long)) : say.leftShort));
+  }
+  if (left.week !== null) {
+    const driven = say.driven(hm(left.weekDrive ?? 0));
+    made.push(meter(length(left.week), `${say.leftWeek} (${driven} ${say.of} 56:00)`, { left: left.week, most: 3360 }));
+  }
+  if (left.two !== null && !left.isYoung) {
+    made.push(meter(length(left.two), `${say.leftTwo} (${say.driven(hm(left.twoDrive))} ${say.of} 90:00)`, { left: left.two, most: 5400 }));
+  }
+  if (left.weekly !== null) {
+    made.push(meter(localMoment(left.weekly), say.leftWeekly));
+  }
+  return h("ul", { class: "meters" }, made);
+}

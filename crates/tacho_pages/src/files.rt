@@ -178,6 +178,7 @@ fn driver() -> &'static str {
 <link rel=\"modulepreload\" href=\"/shared/page.js\">
 <link rel=\"modulepreload\" href=\"/shared/parts.js\">
 <link rel=\"modulepreload\" href=\"/shared/read.js\">
+<link rel=\"modulepreload\" href=\"/shared/tables.js\">
 <link rel=\"modulepreload\" href=\"/shared/time.js\">
 <script type=\"module\" src=\"/shared/say.js\"></script>
 <script type=\"module\" src=\"/driver/driver.js\"></script>
@@ -231,11 +232,12 @@ fn driver() -> &'static str {
 fn driver_driver_js() -> &'static str {
     "// The driver's page: what is left first, then a month. It asks the archive with the driver's key, and shows the replies. The address after
 // `#` is the month; without one it is the last month that has data.
-import { $, KEY_FORM, Problem, bytes, forget, h, keep, key, listed, reading, send, watch, written } from \"/shared/page.js\";
-import { breachItem, chart, debtsPart, gapsPart, meters, notExaminedBox, sheetTable, undivided, unseenOf } from \"/shared/parts.js\";
+import { $, KEY_FORM, Problem, bytes, forget, h, isAbort, keep, key, listed, reading, send, watch, written } from \"/shared/page.js\";
+import { breachItem, chart, gapsPart, notExaminedBox, sheetTable, unseenOf } from \"/shared/parts.js\";
 import { lengthOf, readAhead, readBreaches, readDebts, readEntries, readFiles, readGaps, readSheet, readSpans, readVersion, readWhy }
   from \"/shared/read.js\";
-import { LANGUAGES, both, languageNow, length, monthName, ready, say, speak, utcDay } from \"/shared/say.js\";
+import { LANGUAGES, both, debtsPart, languageNow, monthName, ready, say, speak, undivided, utcDay } from \"/shared/say.js\";
+import { meters } from \"/shared/tables.js\";
 import { DAY, dateOf, localText, minuteOf, minutesOfLocal, monthOf, monthStep, nextMorning, now, offsetText, rangeOf, textOf, zone }
   from \"/shared/time.js\";
 
@@ -439,7 +441,7 @@ async function attempt(ask) {
     if (asking !== state.asking) {
       return false;
     }
-    const isStopped = /** @type {Error} */ (fault).name === \"AbortError\";
+    const isStopped = isAbort(fault);
     // Where the driver has stopped it, or only the limit of requests stands against it, what is there stays.
     if (!isStopped && !(fault instanceof Problem && fault.name === \"tooOften\")) {
       state.month = null;
@@ -1206,7 +1208,7 @@ fn office() -> &'static str {
 
 /// The text at `/office/commands.js`.
 fn office_commands_js() -> &'static str {
-    "// Commands: what is sent to change the archive, and what is said of a refusal.
+    "// Commands: what is sent to change the archive, what is said of a refusal, and whose a card file is.
 import { h, send } from \"/shared/page.js\";
 import { say } from \"/shared/say.js\";
 import { busy, dropKey, tellBusy } from \"./office.js\";
@@ -1215,7 +1217,9 @@ const PAUSE = 4, TURNS = 15;
 
 /** A command: the status and the line of its reply. After a wrong key the page asks for the key; too many requests aren't a fault, since
  *  the archive got none.
- * @type {(path: string, body?: string | Blob) => Promise<{ status: number, line: string }>} */
+ * @param {string} path
+ * @param {string | Blob} [body]
+ * @returns {Promise<{ status: number, line: string }>} */
 export async function command(path, body) {
   for (let turn = 1; ; turn += 1) {
     const { status, text } = await busy(send(path, { method: \"POST\", body }));
@@ -1240,18 +1244,50 @@ export const codeOf = (line) => /^([A-Z]\\d+) /.exec(line)?.[1];
 /** What is said of a refusal, with its line below it, for a telephone call.
  * @type {(status: number, line: string) => import(\"/shared/page.js\").Child} */
 export const refusal = (status, line) =>
-  [say.refusals[codeOf(line)] ?? say.refusedOther, h(\"small\", { class: \"raw\" }, ` ${line || `HTTP ${status}`}`)];
+  [say.refusals[codeOf(line) ?? \"\"] ?? say.refusedOther, h(\"small\", { class: \"raw\" }, ` ${line || `HTTP ${status}`}`)];
 
 /** @type {(id: string, label: string, attributes: Record<string, unknown>) => HTMLElement} a field with its label */
 export const field = (id, label, attributes) =>
   h(\"div\", { class: \"field\" }, h(\"label\", { for: id }, label), h(\"input\", { id, required: true, ...attributes }));
+
+/**
+ * A name in a card file: 35 bytes in a code page of ISO 8859.
+ * @param {ArrayBuffer} file
+ * @param {number} at where the code page stands; the name follows
+ * @returns {string}
+ */
+function nameIn(file, at) {
+  const page = new DataView(file).getUint8(at);
+  // There are no other parts of ISO 8859.
+  const part = page > 0 && page <= 16 && page !== 12 ? page : 1;
+  return new TextDecoder(`iso-8859-${part}`).decode(new Uint8Array(file, at + 1, 35)).replace(/[\\0 ]+$/, \"\");
+}
+
+/**
+ * Whose a card file is, by its EF Identification (0520) of either generation. Nothing is judged by it: the archive reads the file itself.
+ * @param {ArrayBuffer} file
+ * @returns {{holder: string, name: string} | null}
+ */
+export function holderOf(file) {
+  const view = new DataView(file);
+  for (let at = 0; at + 5 <= view.byteLength;) {
+    const [id, kind, size] = [view.getUint16(at), view.getUint8(at + 2), view.getUint16(at + 3)];
+    const start = at + 5;
+    if (id === 0x0520 && (kind === 0 || kind === 2) && size >= 143 && start + 143 <= view.byteLength) {
+      const holder = [...new Uint8Array(file, start, 15)].map((one) => one.toString(16).padStart(2, \"0\")).join(\"\");
+      return { holder, name: `${nameIn(file, start + 101)} ${nameIn(file, start + 65)}`.trim() };
+    }
+    at = start + size;
+  }
+  return null;
+}
 "
 }
 
 /// The text at `/office/entries.js`.
 fn office_entries_js() -> &'static str {
     "// A driver's entries, and their withdrawal.
-import { $, h, written } from \"/shared/page.js\";
+import { $, h, isAbort, written } from \"/shared/page.js\";
 import { both, length, monthName, say } from \"/shared/say.js\";
 import { readDrivers, readEntries } from \"/shared/read.js\";
 import { ask, button, confirmed, head, listTable, notice, thisMonth, tool } from \"./office.js\";
@@ -1267,7 +1303,7 @@ async function withdraw(driver, first, last, again) {
     if (/^withdrawn \\d+( to \\d+)?$/.test(line)) again(notice(\"good\", say.withdrawn(first, last)));
     else again(isUnsure(status) ? notice(\"warn\", say.unsureWithdrawn) : notice(\"bad\", refusal(status, line)));
   } catch (fault) {
-    if (fault.name !== \"AbortError\") again(notice(\"warn\", say.unsureWithdrawn));
+    if (!isAbort(fault)) again(notice(\"warn\", say.unsureWithdrawn));
   }
 }
 
@@ -1299,7 +1335,7 @@ function rangeForm(most, act) {
 export async function page({ signal, args: [driver], again }) {
   const [person] = readDrivers(await ask(`/drivers/${driver}`, signal));
   const entries = readEntries(await ask(`/drivers/${driver}/entries`, signal));
-  const act = (first, last) => withdraw(driver, first, last, again);
+  const act = (/** @type {number} */ first, /** @type {number} */ last) => withdraw(driver, first, last, again);
   return [head([written(person.name), `: ${say.entries}`], tool(`/drivers/${driver}/gaps`, say.gapForm),
     tool(`/drivers/${driver}/${thisMonth()}`, monthName(thisMonth()))),
     h(\"p\", {}, say.entriesHelp), entries.length === 0 ? h(\"p\", { class: \"box\" }, say.noEntries)
@@ -1312,12 +1348,12 @@ export async function page({ signal, args: [driver], again }) {
 /// The text at `/office/files.js`.
 fn office_files_js() -> &'static str {
     "// Card files, one after the other. The list outlives the page, so that an office can look at other pages meanwhile.
-import { h } from \"/shared/page.js\";
+import { h, listed } from \"/shared/page.js\";
 import { minuteOf, textOf } from \"/shared/time.js\";
 import { both, monthName, say } from \"/shared/say.js\";
-import { cardOf, holderOf, readDrivers } from \"/shared/read.js\";
+import { cardOf, readDrivers } from \"/shared/read.js\";
 import { ask, atLogOut, button, confirmed, head, link, proposed, telling, thisMonth, unfinished } from \"./office.js\";
-import { codeOf, command, isUnsure } from \"./commands.js\";
+import { codeOf, command, holderOf, isUnsure } from \"./commands.js\";
 
 const MOST = 262_144, NAME = /\\.(ddd|c1b|tgd|esm)$/i, FAULTS_IN_A_ROW = 2;
 
@@ -1329,7 +1365,7 @@ const MOST = 262_144, NAME = /\\.(ddd|c1b|tgd|esm)$/i, FAULTS_IN_A_ROW = 2;
 let items = [];
 let others = 0, faults = 0;
 let isSending = false, isStopped = false;
-/** @type {import(\"/shared/read.js\").Person[]} */
+/** @type {import(\"/shared/read.js\").Driver[]} */
 let people = [];
 const list = h(\"ul\", { class: \"list results\", \"aria-live\": \"polite\" }), progress = h(\"div\", { role: \"status\", class: \"row\" });
 atLogOut.push(() => { items = []; people = []; others = 0; isStopped = true; draw(); });
@@ -1352,6 +1388,7 @@ function whatOf(status, line, whose) {
   return isUnsure(status) ? \"unsure\" : \"refused\";
 }
 
+/** @type {Record<string, string>} */
 const KINDS = { added: \"good\", repeated: \"same\", noCard: \"same\", waiting: \"\", sending: \"\" };
 
 /** The sentence of an item.
@@ -1373,7 +1410,7 @@ function actionsOf(item) {
   const { what, line, whose } = item.outcome, small = { class: \"button small\" };
   const sendAgain = button(say.sendAgain, () => retry(item, item.part), { class: \"small\" });
   if (what === \"added\") {
-    const driver = /driver (\\d+)/.exec(line)[1];
+    const driver = /driver (\\d+)/.exec(line)?.[1];
     return link(`/drivers/${driver}/${thisMonth()}`, monthName(thisMonth()), small);
   }
   if (what === \"unknownCard\") {
@@ -1397,7 +1434,7 @@ function drawItem(item) {
   item.node.className = KINDS[what] ?? \"bad\";
   const isRaw = !(what in KINDS) && line !== \"\";
   item.node.replaceChildren(h(\"span\", {}, sentenceOf(item), isRaw ? h(\"small\", { class: \"raw\" }, ` ${line}`) : \"\"),
-    ...[actionsOf(item)].flat(2).filter((one) => one instanceof Node));
+    ...listed([actionsOf(item)]));
 }
 
 /** @type {(what: string) => number} */
@@ -1491,7 +1528,7 @@ async function filesOf(entry) {
 /** Takes what was dropped. Within a folder only names of card files count; the others are one line.
  * @type {(dropped: DataTransfer) => Promise<void>} */
 async function takeDropped(dropped) {
-  const entries = [...dropped.items].map((item) => item.webkitGetAsEntry()).filter((entry) => entry !== null);
+  const entries = [...dropped.items].flatMap((item) => item.webkitGetAsEntry() ?? []);
   const single = entries.filter((entry) => entry.isFile), folders = entries.filter((entry) => entry.isDirectory);
   const files = [...dropped.files].filter((file) => single.some((entry) => entry.name === file.name));
   for (const folder of folders) {
@@ -1506,11 +1543,11 @@ async function takeDropped(dropped) {
 function dropPlace() {
   const input = h(\"input\", { type: \"file\", multiple: true, id: \"files\", class: \"hush\", tabindex: \"-1\", \"aria-label\": say.choose });
   input.addEventListener(\"change\", () => { take([...input.files]); input.value = \"\"; });
-  const drop = h(\"div\", { class: \"drop\" }, h(\"p\", {}, say.drop), button(say.choose, () => input.click(), { class: \"main\" }), input,
-    h(\"p\", { class: \"note\" }, say.cardsHelp));
-  drop.addEventListener(\"dragover\", (event) => { event.preventDefault(); drop.classList.add(\"over\"); });
-  drop.addEventListener(\"dragleave\", () => drop.classList.remove(\"over\"));
-  drop.addEventListener(\"drop\", (event) => { event.preventDefault(); drop.classList.remove(\"over\"); takeDropped(event.dataTransfer); });
+  const drop = h(\"div\", {
+    class: \"drop\", ondragover: (event) => { event.preventDefault(); drop.classList.add(\"over\"); },
+    ondragleave: () => drop.classList.remove(\"over\"),
+    ondrop: (event) => { event.preventDefault(); drop.classList.remove(\"over\"); takeDropped(event.dataTransfer); },
+  }, h(\"p\", {}, say.drop), button(say.choose, () => input.click(), { class: \"main\" }), input, h(\"p\", { class: \"note\" }, say.cardsHelp));
   return drop;
 }
 
@@ -1535,12 +1572,12 @@ export async function page({ signal }) {
 /// The text at `/office/gaps.js`.
 fn office_gaps_js() -> &'static str {
     "// The gaps as a form, in local time. It sends UTC.
-import { h, written } from \"/shared/page.js\";
+import { h, isAbort, written } from \"/shared/page.js\";
 import { DAY, dateOf, localText, minuteOf, minutesOfLocal, textOf } from \"/shared/time.js\";
 import { length, localMoment, monthName, say } from \"/shared/say.js\";
 import { readDrivers, readEntries, readForm } from \"/shared/read.js\";
 import { ask, busy, button, head, momentField, notice, thisMonth, tool, unfinished } from \"./office.js\";
-import { command, field, isUnsure, refusal } from \"./commands.js\";
+import { command, isUnsure, refusal } from \"./commands.js\";
 
 const AUTHOR = \"tacho.author\", AUTHOR_BYTES = 64, NOTE_BYTES = 200, FEW = 60;
 
@@ -1595,7 +1632,10 @@ class GapForm {
    * @param {import(\"./office.js\").Context} context
    */
   constructor(driver, pieces, count, context) {
-    Object.assign(this, { driver, pieces, count, context });
+    this.driver = driver;
+    this.pieces = pieces;
+    this.count = count;
+    this.context = context;
     this.isSending = false;
     this.list = h(\"div\", {});
     this.told = h(\"p\", { role: \"status\", id: \"gaps-told\" });
@@ -1606,7 +1646,7 @@ class GapForm {
     this.node = h(\"form\", { onsubmit: (event) => { event.preventDefault(); this.send(); } }, this.list,
       h(\"div\", { class: \"row end\" }, h(\"div\", { class: \"field\" }, h(\"label\", { for: \"author\" }, say.author), this.author), this.save),
         this.told,
-      h(\"datalist\", { id: \"papers\" }, say.papers.map((one) => h(\"option\", { value: one }))));
+      h(\"datalist\", { id: \"papers\" }, say.papers.map((/** @type {string} */ one) => h(\"option\", { value: one }))));
     this.draw();
   }
 
@@ -1632,7 +1672,7 @@ class GapForm {
 
   /** @type {(piece: Piece, k: number) => HTMLElement} */
   rowOf(piece, k) {
-    const pick = (value, text) => h(\"label\", {}, h(\"input\", {
+    const pick = (/** @type {string} */ value, /** @type {string} */ text) => h(\"label\", {}, h(\"input\", {
       type: \"radio\", name: `what-${k}`, value, checked: piece.activity === value,
       onchange: () => { piece.activity = value; this.tellCount(); },
     }), text);
@@ -1649,8 +1689,8 @@ class GapForm {
   /** @type {(piece: Piece, k: number) => HTMLElement} divides a gap at a local time, or at each midnight */
   splitter(piece, k) {
     const cut = momentField(`cut-${k}`, say.splitAt, null), told = h(\"span\", { class: \"warn-text\", role: \"status\" });
-    const input = cut.node.querySelector(\"input\");
-    Object.assign(input, { required: false, min: localText(piece.start).replace(\" \", \"T\"), max: localText(piece.past).replace(\" \", \"T\") });
+    const [min, max] = [piece.start, piece.past].map((one) => localText(one).replace(\" \", \"T\"));
+    Object.assign(cut.input, { required: false, min, max });
     const split = () => {
       const at = cut.minute();
       if (at === null || at <= piece.start || at >= piece.past) { told.textContent = say.splitWithin; return; }
@@ -1675,11 +1715,12 @@ class GapForm {
     localStorage.setItem(AUTHOR, author);
     try {
       const { status, line } = await command(`/drivers/${this.driver}/entries`, csvOf(pieces, author));
-      if (status === 201 && /^entered \\d+ to \\d+$/.test(line)) this.isSaved(/^entered (\\d+) to (\\d+)$/.exec(line).slice(1));
+      const saved = /^entered (\\d+) to (\\d+)$/.exec(line);
+      if (status === 201 && saved) this.isSaved(saved.slice(1));
       else if (isUnsure(status)) await this.look(pieces, author);
       else this.refused(refusal(status, line));
     } catch (fault) {
-      if (fault.name !== \"AbortError\") await this.look(pieces, author);
+      if (!isAbort(fault)) await this.look(pieces, author);
     }
   }
 
@@ -1704,11 +1745,11 @@ class GapForm {
       const entries = readEntries(await busy(ask(`/drivers/${this.driver}/entries`, this.context.signal)));
       const added = entries.slice(this.count);
       const found = added.filter((entry, k) => k < pieces.length && isSame(entry, pieces[k], author));
-      if (added.length > 0 && found.length === pieces.length) this.isSaved([found[0].number, found.at(-1).number]);
+      if (added.length > 0 && found.length === pieces.length) this.isSaved([found[0].number, found[found.length - 1].number]);
       else if (added.length === 0) this.refused(say.notSaved);
       else this.context.again(notice(\"warn\", say.otherEntries));
     } catch (fault) {
-      if (fault.name === \"AbortError\") return;
+      if (isAbort(fault)) return;
       this.told.replaceChildren(notice(\"bad\", say.unsureEntries, \" \",
         button(say.lookAgain, () => this.look(pieces, author), { class: \"small\" })));
     }
@@ -1743,14 +1784,17 @@ import { field } from \"./commands.js\";
 
 const DAYS_BEFORE = 56, MOST_DAYS = 366, BLOCK = 512, NAME_BYTES = 100, SIZE_AT = 124, SIZE_BYTES = 12;
 
-/** @type {{ driver: string, from: string, to: string } | null} what was asked for last */
-let asked = null;
-atLogOut.push(() => { asked = null; });
+/** @typedef {{ driver: string, from: string, to: string }} Asked */
+
+/** @type {Asked | null} what was asked for last */
+let last = null;
+atLogOut.push(() => { last = null; });
 
 /** The files of a tar file: names and bytes.
  * @type {(bytes: Uint8Array) => Map<string, Uint8Array>} */
 export function membersOf(bytes) {
-  const members = new Map(), textAt = (at, size) => new TextDecoder().decode(bytes.subarray(at, at + size)).replace(/\\0[^]*$/, \"\");
+  const members = new Map(), textAt = (/** @type {number} */ at, /** @type {number} */ size) =>
+    new TextDecoder().decode(bytes.subarray(at, at + size)).replace(/\\0[^]*$/, \"\");
   for (let at = 0; at + BLOCK <= bytes.length && bytes[at] !== 0;) {
     const size = parseInt(textAt(at + SIZE_AT, SIZE_BYTES), 8);
     members.set(textAt(at, NAME_BYTES), bytes.subarray(at + BLOCK, at + BLOCK + size));
@@ -1784,7 +1828,7 @@ function save(blob, name) {
 function coverOf({ name }) {
   if (name === \"entries.txt\") return say.entriesFile;
   const [, first, last] = /-(\\d{8})-(\\d{8})\\.ddd$/.exec(name) ?? [];
-  const day = (text) => utcDay(minuteOf(text.replace(/(....)(..)(..)/, \"$1-$2-$3\")));
+  const day = (/** @type {string} */ text) => utcDay(minuteOf(text.replace(/(....)(..)(..)/, \"$1-$2-$3\")));
   return first ? `${day(first)} ${say.to} ${day(last)}` : \"\";
 }
 /** @type {() => import(\"./office.js\").Column[]} */
@@ -1803,8 +1847,8 @@ function monthsOf(first, past) {
 }
 
 /** What was handed over.
- * @type {(person: any, blob: Blob) => Promise<import(\"./office.js\").Content>} */
-async function shown(person, blob) {
+ * @type {(asked: Asked, person: any, blob: Blob) => Promise<import(\"./office.js\").Content>} */
+async function shown(asked, person, blob) {
   const [first, past] = [minuteOf(asked.from), minuteOf(asked.to) + DAY], days = (past - first) / DAY;
   const text = membersOf(new Uint8Array(await blob.arrayBuffer())).get(\"contents.txt\");
   if (!text) throw new Problem(\"unreadable\");
@@ -1826,44 +1870,45 @@ async function shown(person, blob) {
 
 /** @type {(people: any[], again: () => void) => HTMLElement} */
 function askForm(people, again) {
-  const submit = (event) => {
+  return h(\"form\", { class: \"row end no-print\", onsubmit: (event) => {
     event.preventDefault();
-    asked = { driver: $(\"who\").value, from: $(\"from\").value, to: $(\"to\").value };
+    last = { driver: $(\"who\").value, from: $(\"from\").value, to: $(\"to\").value };
     again();
-  };
-  return h(\"form\", { class: \"row end no-print\", onsubmit: submit },
+  } },
     h(\"div\", { class: \"field\" }, h(\"label\", { for: \"who\" }, say.colDriver), h(\"select\", { id: \"who\" },
-      people.map((one) => h(\"option\", { value: String(one.number), selected: String(one.number) === asked?.driver },
+      people.map((one) => h(\"option\", { value: String(one.number), selected: String(one.number) === last?.driver },
         `\\u2068${one.name.replace(/\\p{Bidi_Control}/gu, \"\")}\\u2069 (${one.number})`)))),
-    field(\"from\", say.periodFrom, { type: \"date\", value: asked?.from ?? dateOf(now() - DAYS_BEFORE * DAY) }),
-    field(\"to\", say.periodTo, { type: \"date\", value: asked?.to ?? dateOf(now()) }), h(\"button\", { class: \"main\" }, say.show));
+    field(\"from\", say.periodFrom, { type: \"date\", value: last?.from ?? dateOf(now() - DAYS_BEFORE * DAY) }),
+    field(\"to\", say.periodTo, { type: \"date\", value: last?.to ?? dateOf(now()) }), h(\"button\", { class: \"main\" }, say.show));
 }
 
 /** What the archive hands over for what was asked, or why it doesn't.
- * @type {(people: any[], signal: AbortSignal) => Promise<import(\"./office.js\").Content>} */
-async function answer(people, signal) {
-  const person = people.find((one) => String(one.number) === asked.driver), first = minuteOf(asked.from), last = minuteOf(asked.to);
-  if (!person || first > last || last - first >= MOST_DAYS * DAY) return notice(\"bad\", say.badPeriod);
-  return shown(person, await bytes(`/drivers/${asked.driver}/handover/${asked.from}/${dateOf(last + DAY)}`, { signal, wait: tellWait }));
+ * @type {(asked: Asked, people: any[], signal: AbortSignal) => Promise<import(\"./office.js\").Content>} */
+async function answer(asked, people, signal) {
+  const person = people.find((one) => String(one.number) === asked.driver), first = minuteOf(asked.from), past = minuteOf(asked.to) + DAY;
+  if (!person || first >= past || past - first > MOST_DAYS * DAY) return notice(\"bad\", say.badPeriod);
+  return shown(asked, person, await bytes(`/drivers/${asked.driver}/handover/${asked.from}/${dateOf(past)}`, { signal, wait: tellWait }));
 }
 
 /** @type {(context: import(\"./office.js\").Context) => Promise<import(\"./office.js\").Content>} */
 export async function page({ signal, again }) {
   const people = readDrivers(await ask(\"/drivers\", signal));
-  return [head(say.inspection, asked ? printButton() : null), people.length ? askForm(people, again) : h(\"p\", {}, say.noDriversYet),
-    asked ? await answer(people, signal) : null,
-    h(\"h2\", {}, say.missing), h(\"div\", { class: \"box warn\" }, h(\"ul\", {}, say.inspMissing.map((one) => h(\"li\", {}, one))))];
+  return [head(say.inspection, last ? printButton() : null), people.length ? askForm(people, again) : h(\"p\", {}, say.noDriversYet),
+    last ? await answer(last, people, signal) : null,
+    h(\"h2\", {}, say.missing),
+    h(\"div\", { class: \"box warn\" }, h(\"ul\", {}, say.inspMissing.map((/** @type {string} */ one) => h(\"li\", {}, one))))];
 }
 "
 }
 
 /// The text at `/office/left.js`.
 fn office_left_js() -> &'static str {
-    "// What is left until the limits, for all drivers and for one. Each loads what the other doesn't need.
+    "// What is left until the limits, for all drivers and for one.
 import { h, written } from \"/shared/page.js\";
 import { DAY, textOf, tomorrow } from \"/shared/time.js\";
-import { both, length, localMoment, monthName, say, shortUtcDay } from \"/shared/say.js\";
-import { leftOf, readAhead, readDebts, readDrivers } from \"/shared/read.js\";
+import { both, debtsPart, length, localMoment, monthName, say, shortUtcDay } from \"/shared/say.js\";
+import { readAhead, readDebts, readDrivers } from \"/shared/read.js\";
+import { leftOf, meters, readForecast } from \"/shared/tables.js\";
 import { ask, atLogOut, head, link, listTable, momentField, printButton, thisMonth, tool, zoneLine } from \"./office.js\";
 
 /** @typedef {import(\"/shared/tables.js\").Forecast} Forecast */
@@ -1877,21 +1922,20 @@ atLogOut.push(() => { chosen = null; });
 /** @type {(again: () => void) => HTMLElement} */
 function startForm(again) {
   const moment = momentField(\"start-at\", say.startAt, startOfDriving());
-  const submit = (event) => {
+  return h(\"form\", { class: \"row end no-print\", onsubmit: (event) => {
     event.preventDefault();
     if (moment.minute() !== null) { chosen = moment.minute(); again(); }
-  };
-  return h(\"form\", { class: \"row end no-print\", onsubmit: submit }, moment.node, h(\"button\", {}, say.show));
+  } }, moment.node, h(\"button\", {}, say.show));
 }
 /** @type {() => number} */
 const startOfDriving = () => chosen ?? tomorrow();
 
-/** How many days before the start the last known hour is; null where none is known.
- * @type {(row: Forecast) => number | null} */
-const staleOf = (row) => (row.held === null || row.ahead === null ? null : Math.floor((row.ahead.start - row.held) / DAY));
+/** How many days before the start the last known hour is; Infinity where nothing can be said.
+ * @type {(row: Forecast) => number} */
+const staleOf = (row) => (row.held === null || row.ahead === null ? Infinity : Math.floor((row.ahead.start - row.held) / DAY));
 /** Whether a row says anything.
  * @type {(row: Forecast) => boolean} */
-const isTold = (row) => staleOf(row) !== null && staleOf(row) <= STALE;
+const isTold = (row) => staleOf(row) <= STALE;
 
 /** @type {(value: number | null, least: number) => string} */
 const low = (value, least) => (value !== null && value < least ? \"warn-text\" : \"\");
@@ -1923,21 +1967,22 @@ const twoCell = (left, row) => (left.isYoung
 /** @type {() => import(\"./office.js\").Column[]} */
 function columns() {
   const [driver, held, ...heads] = say.leftCols;
+  /** @type {[(left: any, row: any) => import(\"./office.js\").Content, (left: any, row: any) => string][]} */
   const cells = [
-    [(left) => drivingCell(left), \"\"],
+    [drivingCell, () => \"\"],
     [(left) => bare(left.now), (left) => (left.now === BREAK ? \"quiet\" : low(left.now, BREAK))],
-    [restCell, \"\"],
+    [restCell, () => \"\"],
     [(left) => bare(left.week), (left) => low(left.week, LOW)],
     [twoCell, (left) => low(left.two, LOW)],
     [(left) => (left.weekly === null ? \"–\" : localMoment(left.weekly)),
       (left, row) => (left.weekly !== null && left.weekly - row.ahead.start < DAY ? \"warn-text\" : \"\")],
-    [(left, row) => `${row.ahead.reduced}/3 · ${row.ahead.extended}/2`, \"quiet\"],
+    [(_, row) => `${row.ahead.reduced}/3 · ${row.ahead.extended}/2`, () => \"quiet\"],
   ];
   return [{ head: driver, cell: (row) => [link(`/drivers/${row.driver}/left`, written(row.name)), h(\"small\", {}, ` ${row.driver}`)] },
     { head: held, kind: \"when\", cell: heldCell },
     ...cells.map(([cell, kind], k) => ({
-      head: heads[k], kind: \"num\", kindOf: (row) => (typeof kind === \"string\" ? kind : kind(leftOf(row.ahead), row)),
-        cell: (row) => cell(leftOf(row.ahead), row),
+      head: heads[k], kind: \"num\", kindOf: (/** @type {any} */ row) => kind(leftOf(row.ahead), row),
+      cell: (/** @type {any} */ row) => cell(leftOf(row.ahead), row),
     }))];
 }
 
@@ -1950,7 +1995,6 @@ const untold = (rows) => (rows.length === 0 ? null : [h(\"h2\", {}, say.leftUnto
 
 /** @type {(context: import(\"./office.js\").Context) => Promise<import(\"./office.js\").Content>} */
 async function leftAll({ signal, again }) {
-  const { readForecast } = await import(\"/shared/tables.js\");
   const rows = readForecast(await ask(`/forecast/${textOf(startOfDriving()).replace(\" \", \"/\")}`, signal)), told = rows.filter(isTold);
   return [head(`${say.left}: ${localMoment(startOfDriving(), true)}`, printButton()), startForm(again),
     h(\"p\", { class: \"box\" }, say.leftAssume),
@@ -1970,8 +2014,8 @@ const comingBox = (breaches) => (breaches.length === 0 ? null : h(\"div\", { cla
   h(\"ul\", {}, breaches.map((one) => h(\"li\", {}, say[one.kind](one.amount), \" \", both(one.at))))));
 
 /** What a forecast of one driver says.
- * @type {(ahead: import(\"/shared/read.js\").Ahead, meters: (ahead: any) => HTMLElement) => import(\"./office.js\").Content} */
-function toldOf(ahead, meters) {
+ * @type {(ahead: import(\"/shared/read.js\").Ahead) => import(\"./office.js\").Content} */
+function toldOf(ahead) {
   const days = Math.floor((ahead.start - ahead.held) / DAY);
   if (ahead.not) return warning(say.leftCrew);
   if (isNever(ahead)) return warning(say.noLeft);
@@ -1983,14 +2027,13 @@ function toldOf(ahead, meters) {
 
 /** @type {(context: import(\"./office.js\").Context) => Promise<import(\"./office.js\").Content>} */
 async function leftOne({ signal, args: [driver], again }) {
-  const { debtsPart, meters } = await import(\"/shared/parts.js\");
   const ahead = readAhead(await ask(`/drivers/${driver}/ahead/${textOf(startOfDriving()).replace(\" \", \"/\")}`, signal)),
     [person] = readDrivers(await ask(`/drivers/${driver}`, signal));
   const debts = readDebts(await ask(`/drivers/${driver}/debts`, signal));
   const title = head([written(person.name), `: ${say.left}`], tool(`/drivers/${driver}/${thisMonth()}`, monthName(thisMonth())),
     printButton());
   const held = isNever(ahead) ? \"\" : ` · ${say.colHeld} ${both(ahead.held)}`;
-  return [title, startForm(again), h(\"p\", {}, h(\"b\", {}, `${say.startAt}: ${both(ahead.start)}`), held), toldOf(ahead, meters),
+  return [title, startForm(again), h(\"p\", {}, h(\"b\", {}, `${say.startAt}: ${both(ahead.start)}`), held), toldOf(ahead),
     h(\"p\", { class: \"note\" }, say.leftAssume), h(\"h2\", {}, say.debts), debtsPart(debts)];
 }
 
@@ -2006,7 +2049,7 @@ import { h, written } from \"/shared/page.js\";
 import { DAY, now, rangeOf } from \"/shared/time.js\";
 import { formal, languageNow, localMoment, monthName, say, withLanguage } from \"/shared/say.js\";
 import { cardOf, readDrivers, readEntries, readFiles, readVersion, readWhy } from \"/shared/read.js\";
-import { breachItem, isUnfinished } from \"/shared/parts.js\";
+import { breachItem } from \"/shared/parts.js\";
 import { ask, button, head, languageField, telling, tool } from \"./office.js\";
 
 const SENDER = \"tacho.sender\", LANGUAGE = \"tacho.letter.\", DAYS_TO_ANSWER = 14, DIGITS = 12, ANSWER_LINES = 3;
@@ -2014,6 +2057,13 @@ const SENDER = \"tacho.sender\", LANGUAGE = \"tacho.letter.\", DAYS_TO_ANSWER = 
 /** The language of a driver's letters.
  * @type {(driver: string) => string} */
 const languageOf = (driver) => localStorage.getItem(LANGUAGE + driver) ?? languageNow();
+
+/** Whether what shows a breach ends in time that isn't known: no letter is written from it.
+ * @type {(breach: import(\"/shared/read.js\").ShownBreach) => boolean} */
+function isUnfinished({ kind, evidence }) {
+  const last = evidence.filter((line) => [\"break\", \"rest\", \"weekly\"].includes(line.word)).at(-1);
+  return [\"B1\", \"B2\", \"B8\"].includes(kind) && last !== undefined && last.past === null;
+}
 
 /** @type {() => { field: HTMLElement, printed: HTMLElement }} the sender: a field, and its text as it is printed */
 function sender() {
@@ -2029,10 +2079,10 @@ function sender() {
 /** Where the letter's hours come from.
  * @type {(files: any[], entries: any[], program: string) => HTMLElement} */
 function sourceLine(files, entries, program) {
-  const fileText = (file) => `${file.number} (SHA-256 ${file.digest.slice(0, DIGITS)}…)`;
-  const entryText = (one) => `${one.number} (${say[one.activity]}, ${formal(one.start)} ${say.to} ${formal(one.past)})`;
-  return h(\"p\", { class: \"note\" }, say.letterFiles(files.map(fileText).join(\", \") || \"–\", program),
-    ` ${say.foot}`, entries.length ? ` ${say.letterHand} ${entries.map(entryText).join(\"; \")}.` : \"\");
+  const fileTexts = files.map((file) => `${file.number} (SHA-256 ${file.digest.slice(0, DIGITS)}…)`);
+  const entryTexts = entries.map((one) => `${one.number} (${say[one.activity]}, ${formal(one.start)} ${say.to} ${formal(one.past)})`);
+  return h(\"p\", { class: \"note\" }, say.letterFiles(fileTexts.join(\", \") || \"–\", program),
+    ` ${say.foot}`, entries.length ? ` ${say.letterHand} ${entryTexts.join(\"; \")}.` : \"\");
 }
 
 /** The sheet that is printed, in the language that is set. `ofMonth` are the month's entries; evidence may be of earlier months.
@@ -2040,7 +2090,7 @@ function sourceLine(files, entries, program) {
  *  language: string }) => HTMLElement} */
 function sheetOf({ person, ready, files, entries, ofMonth, program, month, language }) {
   const { field, printed } = sender();
-  const day = (minute) => localMoment(minute, true).slice(0, -6);
+  const day = (/** @type {number} */ minute) => localMoment(minute, true).slice(0, -6);
   return h(\"article\", { class: \"sheet\", lang: language },
     h(\"div\", { class: \"address\" }, h(\"div\", {}, field, printed), h(\"div\", {}, `${say.date2}: ${day(now())}`)),
     h(\"p\", {}, written(person.name), h(\"br\"), h(\"span\", { class: \"note\" }, `${say.cardNo}: ${cardOf(person.holder)}`)),
@@ -2056,11 +2106,11 @@ function sheetOf({ person, ready, files, entries, ofMonth, program, month, langu
 
 /** @type {(context: import(\"./office.js\").Context) => Promise<import(\"./office.js\").Content>} */
 export async function page({ signal, args: [driver, month], again }) {
-  const at = (what) => ask(`/drivers/${driver}${what}`, signal);
+  const at = (/** @type {string} */ what) => ask(`/drivers/${driver}${what}`, signal);
   const [person] = readDrivers(await at(\"\")), all = readWhy(await at(`/why/${month}`)), files = readFiles(await at(\"/files\")),
     entries = readEntries(await at(\"/entries\"));
   const program = readVersion(await ask(\"/version\", signal)), [first, past] = rangeOf(month);
-  const isWithin = (one) => one.start < past && first < one.past;
+  const isWithin = (/** @type {import(\"/shared/read.js\").Range} */ one) => one.start < past && first < one.past;
   const ready = all.filter((one) => !isUnfinished(one)), language = languageOf(driver);
   const choose = languageField(language, (one) => { localStorage.setItem(LANGUAGE + driver, one); again(); }, { id: \"letter-language\" });
   return [h(\"div\", { class: \"no-print\" },
@@ -2083,9 +2133,9 @@ fn office_month_js() -> &'static str {
     "// A driver's month.
 import { Problem, h, written } from \"/shared/page.js\";
 import { monthStep, now, offsetText, rangeOf, zone } from \"/shared/time.js\";
-import { monthName, say } from \"/shared/say.js\";
+import { debtsPart, monthName, say } from \"/shared/say.js\";
 import { readBreaches, readDebts, readEntries, readFiles, readGaps, readSheet, readSpans, readWhy } from \"/shared/read.js\";
-import { breachItem, chart, debtsPart, gapsPart, notExaminedBox, sheetTable, unseenOf } from \"/shared/parts.js\";
+import { breachItem, chart, gapsPart, notExaminedBox, sheetTable, unseenOf } from \"/shared/parts.js\";
 import { ask, head, link, printButton, tool } from \"./office.js\";
 
 const TURNS = 3, DRIVE = 3;
@@ -2142,7 +2192,7 @@ export async function page({ signal, args: [driver, month, day] }) {
     entries = readEntries(replies.entries);
   const end = endOf(stretches), unseen = unseenOf(stretches, range);
   const gaps = readGaps(replies.gaps).map((gap) => ({ ...gap, past: Math.min(gap.past, end) })).filter((gap) => gap.start < gap.past);
-  const isThere = (one) => one.start < Math.max(end, now()), days = sheet.days.filter(isThere),
+  const isThere = (/** @type {{ start: number }} */ one) => one.start < Math.max(end, now()), days = sheet.days.filter(isThere),
     later = sheet.days.filter((one) => !isThere(one));
   const seen = range[1] - range[0] - unseen.reduce((sum, one) => sum + one.past - one.start, 0);
   const shown = chart({ spans, gaps, breaches, unseen, days, range });
@@ -2791,7 +2841,7 @@ dialog::backdrop {
 fn office_office_js() -> &'static str {
     "// The frame of the office's pages: the key, the address after #, which names the page, and what several pages use. Each page is a module
 // that is loaded when it is first opened.
-import { $, KEY_FORM, MODULE, Problem, forget, h, keep, key, listed, moduleAt, reading, written } from \"/shared/page.js\";
+import { $, KEY_FORM, MODULE, Problem, forget, h, isAbort, keep, key, listed, moduleAt, reading, written } from \"/shared/page.js\";
 import { localText, minutesOfLocal, monthOf, now, offsetText, textOf, zone } from \"/shared/time.js\";
 import { readVersion } from \"/shared/read.js\";
 import { LANGUAGES, languageNow, ready, say, speak } from \"/shared/say.js\";
@@ -2876,7 +2926,7 @@ export const confirmed = (question, action, other = say.keepIt) => new Promise((
 
 /** A field for a local time. In the hour that autumn repeats it asks which of the two is meant; in the hour that spring leaves out it says
  *  so, and has no minute.
- * @type {(id: string, label: string, start: number | null) => { node: HTMLElement, minute: () => number | null }} */
+ * @type {(id: string, label: string, start: number | null) => { node: HTMLElement, input: HTMLInputElement, minute: () => number | null }} */
 export function momentField(id, label, start) {
   const value = start === null ? \"\" : localText(start).replace(\" \", \"T\");
   const input = h(\"input\", { type: \"datetime-local\", id, value, required: true, \"aria-describedby\": `${id}-which` });
@@ -2899,7 +2949,8 @@ export function momentField(id, label, start) {
     chosen = minutes.indexOf(start);
     which.querySelectorAll(\"input\")[chosen].checked = true;
   }
-  return { node: h(\"div\", { class: \"field\" }, h(\"label\", { for: id }, label), input, which), minute: () => minutes[chosen] ?? null };
+  const node = h(\"div\", { class: \"field\" }, h(\"label\", { for: id }, label), input, which);
+  return { node, input, minute: () => minutes[chosen] ?? null };
 }
 
 // Requests
@@ -2978,10 +3029,10 @@ function showFrame(to) {
   const isIn = key() !== null;
   const places = [[\"/\", say.start], [\"/files\", say.cards], [\"/left\", say.left], [`/month/${thisMonth()}`, say.wholeMonth],
     [\"/people\", say.people], [\"/inspection\", say.inspection]];
-  const isAt = (where) => (where === \"/\" ? to === \"/\" : to.startsWith(where.startsWith(\"/month\") ? \"/month\" : where));
+  const isAt = (/** @type {string} */ where) => (where === \"/\" ? to === \"/\" : to.startsWith(where.startsWith(\"/month\") ? \"/month\" : where));
   $(\"nav\").replaceChildren(...(isIn ? places.map(([where, text]) => link(where, text, { \"aria-current\": isAt(where) ? \"page\" : null }))
     : []));
-  const change = async (language) => {
+  const change = async (/** @type {string} */ language) => {
     if (!await mayLeave()) { showFrame(to); return; }
     busy(speak(language)).then(() => render(), (fault) => render(notice(\"bad\", sentenceOf(fault))));
   };
@@ -3014,7 +3065,7 @@ async function contentOf(to, signal, again) {
   const found = PAGES.find(([one]) => one.test(to));
   if (!found) return [head(say.noPage), h(\"p\", {}, link(\"/\", say.start))];
   const module = await moduleAt(`/office/${found[1]}.js`);
-  return module.page({ signal, args: found[0].exec(to).slice(1), again });
+  return module.page({ signal, args: found[0].exec(to)?.slice(1), again });
 }
 
 /** The address of what is shown, or is about to be. */
@@ -3048,9 +3099,9 @@ async function render(told = null) {
   try {
     made = await busy(contentOf(to, mine.signal, render));
   } catch (fault) {
-    if (fault.name === \"AbortError\" && mine !== current) return;
-    if (fault.name === \"badKey\") { dropKey(); return; }
-    const sentence = fault.name === \"AbortError\" ? say.stopped : sentenceOf(fault);
+    if (isAbort(fault) && mine !== current) return;
+    if (fault instanceof Problem && fault.name === \"badKey\") { dropKey(); return; }
+    const sentence = isAbort(fault) ? say.stopped : sentenceOf(fault);
     made = [h(\"h1\", { id: \"title\", class: \"hush\", tabindex: \"-1\" }, say.office), notice(\"bad\", sentence),
       button(say.retry, () => again(fault))];
   }
@@ -3059,7 +3110,7 @@ async function render(told = null) {
   await afterShown(to, mine.signal);
 }
 
-/** @type {(fault: any) => void} repeats a page; where a module couldn't be loaded, some browsers do so only when all is loaded anew */
+/** @type {(fault: any) => unknown} repeats a page; where a module couldn't be loaded, some browsers do so only when all is loaded anew */
 const again = (fault) => (fault.values?.includes(MODULE) ? location.reload() : render());
 
 /** @type {(made: Content, told: Node | null) => void} */
@@ -3087,7 +3138,7 @@ async function afterShown(to, signal) {
 function showSignIn(told) {
   const input = h(\"input\", { type: \"password\", id: \"key\", autocomplete: \"off\", required: true, \"aria-describedby\": \"key-help\" });
   const message = h(\"div\", { role: \"alert\" }, told);
-  const submit = (event) => {
+  const submit = (/** @type {Event} */ event) => {
     event.preventDefault();
     const value = input.value.replace(/\\s/g, \"\");
     if (!KEY_FORM.test(value)) { message.replaceChildren(notice(\"bad\", say.badKey)); return; }
@@ -3137,7 +3188,7 @@ document.addEventListener(\"visibilitychange\", leaveIfIdle);
 // The browser may keep the page while another is shown, whose log-out this one knows nothing of.
 addEventListener(\"pageshow\", (event) => { if (event.persisted) logOut(notice(\"good\", say.loggedOut)); });
 addEventListener(\"beforeunload\", (event) => { if (unfinished.size > 0) event.preventDefault(); });
-$(\"skip\").addEventListener(\"click\", (event) => { event.preventDefault(); $(\"content\").focus(); });
+$(\"skip\").addEventListener(\"click\", (/** @type {Event} */ event) => { event.preventDefault(); $(\"content\").focus(); });
 ready.then(() => {
   addEventListener(\"hashchange\", follow);
   render();
@@ -3168,6 +3219,8 @@ const passedOf = (month) => { const [first, past] = rangeOf(month); return Math.
 /** @type {(name: string) => (row: any) => string} */
 const time = (name) => (row) => (row[name] ? hm(row[name]) : \"–\");
 /** @type {(name: string) => (row: any) => string} */
+const count = (name) => (row) => (row[name] ? String(row[name]) : \"–\");
+/** @type {(name: string) => (row: any) => string} */
 const dimIfNone = (name) => (row) => (row[name] ? \"\" : \"quiet dim\");
 
 /** The columns; those of rules that nobody broke are left out.
@@ -3179,9 +3232,7 @@ const columnsOf = (month, total) => [
     .map((name) => ({ head: say.sheetColumns[1 + COLUMNS.indexOf(name)], kind: \"num\", kindOf: dimIfNone(name), cell: time(name) })),
   { head: say.notExamined, kind: \"num\", kindOf: (row) => (row.missing > 0 ? \"\" : \"quiet dim\"),
     cell: (row) => (row.missing > 0 ? h(\"span\", { class: row.missing > DAY ? \"warn-text\" : null }, hm(row.missing)) : \"–\") },
-  ...RULES.filter((rule) => total[rule]).map((rule) => ({
-    head: rule, kind: \"num\", kindOf: dimIfNone(rule), cell: (row) => (row[rule] ? String(row[rule]) : \"–\"),
-  })),
+  ...RULES.filter((rule) => total[rule]).map((rule) => ({ head: rule, kind: \"num\", kindOf: dimIfNone(rule), cell: count(rule) })),
 ];
 
 /** The table of the month, which may have many columns.
@@ -3226,18 +3277,21 @@ export async function page({ signal, args: [month] }) {
 /// The text at `/office/people.js`.
 fn office_people_js() -> &'static str {
     "// The drivers: one or many are added, and a key, base or name is changed. A key is made here, at random, and shown once.
-import { $, h, key, written } from \"/shared/page.js\";
+import { $, h, isAbort, key, written } from \"/shared/page.js\";
 import { DAY, dateOf, minuteOf, now, weekdayOf } from \"/shared/time.js\";
 import { say, utcDay } from \"/shared/say.js\";
-import { cardOf, holderOf, readDrivers } from \"/shared/read.js\";
+import { cardOf, readDrivers } from \"/shared/read.js\";
 import { ask, atLogOut, button, confirmed, head, link, listTable, notice, proposed, telling } from \"./office.js\";
-import { command, field, isUnsure, refusal } from \"./commands.js\";
+import { command, field, holderOf, isUnsure, refusal } from \"./commands.js\";
 
 const LETTERS = \"abcdefghijkmnopqrstuvwxyzABCDEFGHJKLMNPQRSTUVWXYZ23456789\", KEY_LENGTH = 32, BYTES = 256;
-const PLACE = \"tacho.driverspage\", FIRST_DAY = \"2000-01-03\", DAYS_BEFORE = 56, HEAD = [\"driver\", \"holder\", \"key\", \"base\", \"name\"];
+const PLACE = \"tacho.driverspage\", FIRST_DAY = \"2000-01-03\", DAYS_BEFORE = 56;
 
 /** @typedef {{ name: string, key: string }} Slip */
 /** @typedef {{ driver: string, holder: string, key: string, base: string, name: string }} Registration */
+
+/** @type {(keyof Registration)[]} */
+const HEAD = [\"driver\", \"holder\", \"key\", \"base\", \"name\"];
 
 /** The slips that wait to be printed: a page that is shown anew keeps them, a log-out drops them.
  * @type {Slip[]} */
@@ -3284,7 +3338,7 @@ function slipsPart(again) {
  * @type {(one: Registration) => Promise<{ status: number, line: string }>} */
 async function register(one) {
   if (one.key === key()) return { status: 409, line: \"S2 key taken\" };
-  const cell = (text) => (/[\",\\r\\n]/.test(text) ? `\"${text.replaceAll('\"', '\"\"')}\"` : text);
+  const cell = (/** @type {string} */ text) => (/[\",\\r\\n]/.test(text) ? `\"${text.replaceAll('\"', '\"\"')}\"` : text);
   const row = HEAD.map((name) => cell(one[name])).join(\",\");
   const told = await command(\"/drivers\", `${HEAD.join(\",\")}\\n${row}\\n`);
   if (told.status === 201) slips.push({ name: one.name, key: one.key });
@@ -3304,7 +3358,7 @@ async function act(work, expected, said, again) {
     if (line === expected) again(notice(\"good\", said()));
     else again(isUnsure(status) ? notice(\"warn\", say.unsureDone) : notice(\"bad\", refusal(status, line)));
   } catch (fault) {
-    if (fault.name !== \"AbortError\") again(notice(\"warn\", say.unsureDone));
+    if (!isAbort(fault)) again(notice(\"warn\", say.unsureDone));
   } finally {
     isActing = false;
   }
@@ -3350,8 +3404,8 @@ const usualBase = () => dateOf(now() - ((weekdayOf(now()) + 6) % 7) * DAY - DAYS
 
 /** @type {(people: any[], again: (notice?: Node) => void) => HTMLElement} the form for one driver */
 function addForm(people, again) {
-  const at = (id) => $(id).value.trim(), person = proposed.person;
-  const submit = (event) => {
+  const at = (/** @type {string} */ id) => $(id).value.trim(), person = proposed.person;
+  const submit = (/** @type {Event} */ event) => {
     event.preventDefault();
     const one = { driver: at(\"f-number\"), holder: at(\"f-holder\"), key: newKey(), base: at(\"f-base\"), name: at(\"f-name\") };
     act(async () => {
@@ -3360,14 +3414,15 @@ function addForm(people, again) {
       return told;
     }, `registered ${one.driver}`, () => telling((who) => say.addedDriver(who, one.driver), one.name), again);
   };
-  const fromFile = async (event) => {
-    const whose = holderOf(await event.target.files[0].arrayBuffer());
-    $(\"f-file-told\").textContent = whose ? \"\" : say.noCard(event.target.files[0].name);
+  const fromFile = async (/** @type {File} */ file) => {
+    const whose = holderOf(await file.arrayBuffer());
+    $(\"f-file-told\").textContent = whose ? \"\" : say.noCard(file.name);
     if (whose) { $(\"f-name\").value = whose.name; $(\"f-holder\").value = whose.holder; }
   };
   return h(\"form\", { class: \"row end\", id: \"add\", onsubmit: submit },
     h(\"div\", { class: \"field\" }, h(\"label\", { for: \"f-file\" }, say.fromFile),
-      h(\"input\", { id: \"f-file\", type: \"file\", onchange: fromFile }), h(\"span\", { id: \"f-file-told\", class: \"warn-text\", role: \"status\" })),
+      h(\"input\", { id: \"f-file\", type: \"file\", onchange: (event) => fromFile(event.target.files[0]) }),
+      h(\"span\", { id: \"f-file-told\", class: \"warn-text\", role: \"status\" })),
     field(\"f-number\", say.number, { type: \"number\", min: 1, max: 999999, value: Math.max(0, ...people.map((one) => one.number)) + 1 }),
     field(\"f-name\", say.fullName, { value: person?.name ?? \"\" }),
     field(\"f-holder\", say.card, { pattern: \"[0-9a-f]{30}\", size: 32, title: say.cardForm, value: person?.holder ?? \"\" }),
@@ -3380,14 +3435,17 @@ function addForm(people, again) {
 /** The records of CSV as an office writes it (docs/FORMATS.md, 'CSV'); a semicolon may stand between fields.
  * @type {(text: string) => string[][]} */
 function readRecords(text) {
+  /** @type {string[][]} */
   const records = [];
-  let fields = [], at = text.startsWith(\"\\ufeff\") ? 1 : 0;
+  /** @type {string[]} */
+  let fields = [];
+  let at = text.startsWith(\"\\ufeff\") ? 1 : 0;
   const between = /^[^\\r\\n,]*;/.test(text.slice(at)) ? \";\" : \",\";
   const end = () => { if (fields.length > 1 || fields[0] !== \"\") records.push(fields); fields = []; };
   while (at < text.length) {
     const quoted = text[at] === '\"' ? /^\"((?:[^\"]|\"\")*)(?:\"|$)/.exec(text.slice(at)) : null;
     at += quoted ? quoted[0].length : 0;
-    const rest = new RegExp(`^[^\\r\\n${between}]*`).exec(text.slice(at))[0];
+    const rest = (new RegExp(`^[^\\r\\n${between}]*`).exec(text.slice(at)) ?? [\"\"])[0];
     at += rest.length;
     fields.push((quoted ? quoted[1].replaceAll('\"\"', '\"') : \"\") + rest);
     if (text[at] === between) { at += 1; if (at === text.length) fields.push(\"\"); continue; }
@@ -3402,7 +3460,7 @@ function readRecords(text) {
  * @type {(text: string) => Registration[] | null} */
 function registrationsOf(text) {
   const [columns, ...rows] = readRecords(text);
-  const isHead = (names) => [...names].sort().join() === [...HEAD].sort().join();
+  const isHead = (/** @type {string[]} */ names) => [...names].sort().join() === [...HEAD].sort().join();
   if (!columns || !(isHead(columns) || isHead([...columns, \"key\"]))) return null;
   return rows.map((row) => {
     const cells = Object.fromEntries(HEAD.map((name) => [name, row[columns.indexOf(name)] ?? \"\"]));
@@ -3416,7 +3474,8 @@ async function addMany(file, list, again) {
   const all = registrationsOf(await file.text());
   if (all === null) { list.replaceChildren(h(\"li\", { class: \"bad\" }, h(\"span\", {}, say.csvHead(HEAD.join(\",\"))))); return; }
   let added = 0;
-  const waiting = (one) => h(\"li\", {}, h(\"span\", {}, telling((who) => say.waiting(`${one.driver} ${who}`), one.name)));
+  const waiting = (/** @type {Registration} */ one) =>
+    h(\"li\", {}, h(\"span\", {}, telling((who) => say.waiting(`${one.driver} ${who}`), one.name)));
   const items = all.map((one) => list.appendChild(waiting(one)));
   for (const [k, one] of all.entries()) {
     const { status, line } = await register(one).catch(() => ({ status: 0, line: \"\" }));
@@ -3469,11 +3528,10 @@ export async function page({ signal, again }) {
 /// The text at `/office/start.js`.
 fn office_start_js() -> &'static str {
     "// The start page: all drivers, most urgent first. What is left comes later, into cells that are there already.
-import { h, written } from \"/shared/page.js\";
+import { h, listed, written } from \"/shared/page.js\";
 import { DAY, localText, monthStep, now, textOf, tomorrow } from \"/shared/time.js\";
 import { daysSince, length, localMoment, localTime, monthName, say } from \"/shared/say.js\";
-import { readForecast, readStanding } from \"/shared/tables.js\";
-import { leftOf } from \"/shared/read.js\";
+import { leftOf, readForecast, readStanding } from \"/shared/tables.js\";
 import { ask, button, head, link, listRow, listTable, printButton, thisMonth, zoneLine } from \"./office.js\";
 
 const OVERDUE = 28, SOON = 21, GONE = 56, FEW_DAYS = 10, STALE = 4;
@@ -3481,9 +3539,9 @@ const OVERDUE = 28, SOON = 21, GONE = 56, FEW_DAYS = 10, STALE = 4;
 /** @typedef {import(\"/shared/tables.js\").Standing} Standing */
 /** @typedef {{ level: \"bad\" | \"warn\" | \"look\" | \"good\", text: string, to: string, by: number, rank: number }} Task */
 
-/** How many days ago the last known hour was.
- * @type {(row: Standing) => number | null} */
-const ageOf = (row) => (row.held === null ? null : daysSince(row.held, now()));
+/** How many days ago the last known hour was; 0 where none is known.
+ * @type {(row: Standing) => number} */
+const ageOf = (row) => (row.held === null ? 0 : daysSince(row.held, now()));
 /** Whether the driver may have left: nothing records that.
  * @type {(row: Standing) => boolean} */
 const mayHaveLeft = (row) => row.held !== null && ageOf(row) > GONE;
@@ -3536,9 +3594,9 @@ const dimIf = (isEmpty) => (row) => (isEmpty(row) ? \"quiet dim\" : \"\");
 /** @type {(leftCells: Map<number, HTMLElement>) => import(\"./office.js\").Column[]} */
 function columnsOf(leftCells) {
   const month = thisMonth(), before = monthStep(month, -1);
-  const breachesOf = (name, which) => ({
+  const breachesOf = (/** @type {\"last_month\" | \"breaches\"} */ name, /** @type {string} */ which) => ({
     head: say.colBreaches(monthName(which).split(\" \")[0]), kind: \"num\", kindOf: dimIf((row) => row[name] === 0),
-    cell: (row) => (row[name] ? link(`/drivers/${row.driver}/${which}`, String(row[name])) : \"–\"),
+    cell: (/** @type {Standing} */ row) => (row[name] ? link(`/drivers/${row.driver}/${which}`, String(row[name])) : \"–\"),
   });
   return [
     { head: say.colDriver, cell: (row) => [link(`/drivers/${row.driver}/${month}`, written(row.name)), h(\"small\", {}, ` ${row.driver}`)] },
@@ -3559,7 +3617,7 @@ function columnsOf(leftCells) {
 function leftText(row) {
   if (row.held === null || row.ahead === null || row.ahead.start - row.held > STALE * DAY) return \"–\";
   const left = leftOf(row.ahead);
-  const least = Math.min(...[left.day, left.week, left.isYoung ? null : left.two].filter((one) => one !== null));
+  const least = Math.min(...[left.day, left.week, left.isYoung ? null : left.two].map((one) => one ?? Infinity));
   return [link(`/drivers/${row.driver}/left`, length(least)), left.isYoung ? h(\"small\", {}, ` ${say.twoUnknown}`) : null];
 }
 
@@ -3568,7 +3626,7 @@ function leftText(row) {
 async function fillLeft(cells, signal) {
   try {
     const rows = readForecast(await ask(`/forecast/${textOf(tomorrow()).replace(\" \", \"/\")}`, signal));
-    for (const row of rows) cells.get(row.driver)?.replaceChildren(...[leftText(row)].flat().filter((one) => one !== null));
+    for (const row of rows) cells.get(row.driver)?.replaceChildren(...listed([leftText(row)]));
   } catch {
     cells.forEach((cell) => cell.replaceChildren(\"?\"));
   }
@@ -3596,7 +3654,7 @@ function sums(rows, show) {
 const goneList = (rows) => (rows.length === 0 ? null : h(\"details\", { class: \"gone\" }, h(\"summary\", {}, say.gone(rows.length, GONE)),
   h(\"p\", { class: \"note\" }, say.goneWhy),
   h(\"ul\", {}, rows.map((row) => h(\"li\", {}, link(`/drivers/${row.driver}/${thisMonth()}`, written(row.name)),
-    ` (${row.driver}) · ${say.colHeld} `, localMoment(row.held, true))))));
+    ` (${row.driver}) · ${say.colHeld} `, localMoment(/** @type {number} */ (row.held), true))))));
 
 /** @type {(context: import(\"./office.js\").Context) => Promise<import(\"./office.js\").Content>} */
 export async function page({ signal, again }) {
@@ -3605,7 +3663,7 @@ export async function page({ signal, again }) {
   rows.sort((a, b) => a.task.rank - b.task.rank || a.task.by - b.task.by || a.driver - b.driver);
   const leftCells = new Map(rows.map((row) => [row.driver, h(\"span\", { class: \"v\" }, \"…\")]));
   const columns = columnsOf(leftCells), body = h(\"tbody\", { role: \"rowgroup\" }), count = h(\"p\", { class: \"note\", role: \"status\" });
-  const show = (chosen) => {
+  const show = (/** @type {string} */ chosen) => {
     const shown = rows.filter(FILTERS[chosen]);
     body.replaceChildren(...shown.map((row) => listRow(columns, row)));
     count.textContent = say.showing(shown.length, rows.length);
@@ -5080,8 +5138,9 @@ const SVG = \"http://www.w3.org/2000/svg\";
 
 /**
  * What an element can have in it. Lists may be nested; null, undefined and false are left out, so that a part can be left out in place.
- * @typedef {Node | string | null | undefined | false | Child[]} Child
+ * @typedef {Node | string | null | undefined | false | Children} Child
  */
+/** @typedef {{ [at: number]: Child, length: number }} Children */
 
 /**
  * The attributes of an element by their names. `true` is an attribute without a value; null, undefined and false are none. A name that
@@ -5203,6 +5262,15 @@ export class Problem extends Error {
   }
 }
 
+/**
+ * Whether a request was given up.
+ * @param {unknown} fault
+ * @returns {boolean}
+ */
+export function isAbort(fault) {
+  return fault instanceof Error && fault.name === \"AbortError\";
+}
+
 /** The sentences on statuses that aren't from a command. */
 const TOLD = new Map([[403, \"badKey\"], [429, \"tooOften\"], [502, \"isDown\"], [503, \"isDown\"], [504, \"isDown\"]]);
 
@@ -5235,7 +5303,7 @@ function change(by) {
 /** How long a reading waits for its reply, in milliseconds. The service gives a client 30 seconds. */
 const PATIENCE = 35000;
 
-/** Each begins the wait of a reading anew. @type {Set<() => void>} */
+/** @type {Set<() => void>} Each begins the wait of a reading anew. */
 const waits = new Set();
 
 /**
@@ -5281,7 +5349,7 @@ async function asked(path, { method = \"GET\", body, signal, key: other }, take)
     if (isLate) {
       throw new Problem(\"isDown\");
     }
-    throw /** @type {Error} */ (fault).name === \"AbortError\" ? fault : new Problem(\"noConnection\");
+    throw isAbort(fault) ? fault : new Problem(\"noConnection\");
   } finally {
     stop();
     if (!isLate) {
@@ -5410,29 +5478,20 @@ export function moduleAt(path) {
 
 /// The text at `/shared/parts.js`.
 fn shared_parts_js() -> &'static str {
-    "// Parts that both pages show: breaches with their evidence, the chart, the sheet, debts, gaps, what isn't examined, and what is left.
+    "// Parts of a month that both pages show: breaches with their evidence, what isn't examined, the chart, the sheet, and gaps.
 import { h, svg } from \"./page.js\";
-import { ARTICLES, leftOf } from \"./read.js\";
-import { amountText, both, bothTimes, formal, hm, length, localMoment, localTime, say, shortFormal, shortUtcDay, utcDay, utcTime }
+import { ARTICLES } from \"./read.js\";
+import { amountText, both, bothTimes, formal, hm, length, localMoment, say, shortFormal, shortUtcDay, undivided, utcDay, utcTime }
   from \"./say.js\";
 import { DAY, dateOf, offsetText, weekdayOf } from \"./time.js\";
 
-/** @import { Ahead, Breach, CardFile, Day, Debt, Entry, Evidence, Range, ShownBreach, Span, Stretch } from \"./read.js\" */
+/** @import { Breach, Day, Entry, Evidence, Range, ShownBreach, Span, Stretch } from \"./read.js\" */
 /** @typedef {Range & {cause: string, from: number}} Unseen what isn't examined, why, and from when on it is examined again */
 
 // Breaches
 
 /** The minutes that a rule allows, of the rules that add driving up. */
 const LIMITS = new Map([[\"B1\", 270], [\"B4\", 600], [\"B5\", 540], [\"B6\", 3360], [\"B7\", 5400]]);
-
-/**
- * A sentence whose lengths, such as '4 h 30', no end of a line divides.
- * @param {string} text
- * @returns {string}
- */
-export function undivided(text) {
-  return text.replace(/(\\d) (h|min|minutes|Minuten)\\b/g, \"$1\\u00a0$2\").replace(/(h) (\\d\\d)\\b/g, \"$1\\u00a0$2\");
-}
 
 /**
  * What stands in the last column of a line of evidence, in words.
@@ -5589,16 +5648,6 @@ export function breachItem(breach, { entries, open = false, formalTimes = false,
       : h(\"div\", { class: \"foot\" }, limits(moment(at)), folded));
 }
 
-/**
- * Whether what shows a breach ends in time that isn't known: no letter is written from it.
- * @param {ShownBreach} breach
- * @returns {boolean}
- */
-export function isUnfinished({ kind, evidence }) {
-  const last = evidence.filter((line) => [\"break\", \"rest\", \"weekly\"].includes(line.word)).at(-1);
-  return [\"B1\", \"B2\", \"B8\"].includes(kind) && last !== undefined && last.past === null;
-}
-
 // What isn't examined
 
 /**
@@ -5681,7 +5730,7 @@ export function notExaminedBox(stretches, range, end = 0, gaps = [], form = null
 
 // The chart
 
-/** The heights of the bars, of 24: they tell the activities apart without colours. @type {Record<string, number>} */
+/** @type {Record<string, number>} The heights of the bars, of 24: they tell the activities apart without colours. */
 const HEIGHTS = { rest: 7, available: 12, work: 17, drive: 24 };
 const HOURS = [0, 6, 12, 18, 24];
 
@@ -5868,32 +5917,7 @@ export function sheetTable({ days, total, later = [] }) {
     h(\"tfoot\", {}, h(\"tr\", {}, h(\"th\", { scope: \"row\" }, say.wholeMonth), total.map(cell)))));
 }
 
-// Debts and gaps
-
-/**
- * The rest that is to be made up, and below it the rest that was. Where the examination broke off, it isn't known what became of a debt.
- * @param {Array<Stretch<Debt>>} stretches
- * @returns {import(\"./page.js\").Child}
- */
-export function debtsPart(stretches) {
-  const last = stretches.at(-1);
-  const open = last === undefined ? [] : last.items.filter((debt) => debt.end !== \"paid\");
-  const before = stretches.slice(0, -1).flatMap((one) => one.items);
-  const broken = before.filter((debt) => debt.end === \"open\" && debt.by > (last?.horizon ?? 0));
-  const paid = stretches.flatMap((one) => one.items).filter((debt) => debt.end === \"paid\").reverse();
-  const item = (/** @type {Debt} */ debt, /** @type {string} */ sentence, /** @type {string} */ kind) =>
-    h(\"li\", { class: kind }, undivided(say[sentence](utcDay(debt.week), length(debt.owes), both(debt.by))));
-  const items = [
-    ...open.map((debt) => (debt.end === \"late\" ? item(debt, \"debtLate\", \"box bad\") : item(debt, \"debt\", \"box warn\"))),
-    ...broken.map((debt) => item(debt, \"debtBroken\", \"box warn\")),
-  ];
-  const paidItem = (/** @type {Debt} */ debt) =>
-    h(\"li\", {}, undivided(say.debtWas(utcDay(debt.week), length(debt.owes), both(/** @type {number} */ (debt.at)))));
-  return [
-    items.length > 0 ? h(\"ul\", { class: \"list\" }, items) : h(\"p\", {}, say.noDebts),
-    paid.length > 0 ? h(\"details\", {}, h(\"summary\", {}, say.debtPaid(paid.length)), h(\"ul\", {}, paid.slice(0, 12).map(paidItem))) : null,
-  ];
-}
+// Gaps
 
 /**
  * The gaps.
@@ -5906,59 +5930,6 @@ export function gapsPart(gaps) {
   }
   const text = (/** @type {Range} */ { start, past }) => `${both(start)} ${say.to} ${both(past)} · ${length(past - start)}`;
   return h(\"ul\", {}, gaps.map((gap) => h(\"li\", {}, text(gap))));
-}
-
-// What is left
-
-/**
- * A field with what is left: a length with a bar, or a moment.
- * @param {string} value
- * @param {string} text
- * @param {{left: number, most: number, isFirst?: boolean} | null} [amount] null for a moment
- * @returns {HTMLElement}
- */
-function meter(value, text, amount = null) {
-  if (amount === null) {
-    return h(\"li\", { class: \"meter moment\" }, h(\"b\", {}, value), h(\"span\", {}, undivided(text)));
-  }
-  const { left, most, isFirst } = amount;
-  const part = Math.max(0, Math.min(100, 100 * left / most));
-  return h(\"li\", { class: `meter${part < 10 ? \" low\" : \"\"}${isFirst ? \" first\" : \"\"}` }, h(\"b\", {}, value), h(\"span\", {}, undivided(text)),
-    svg(\"svg\", { viewBox: \"0 0 100 4\", preserveAspectRatio: \"none\", \"aria-hidden\": \"true\" },
-      svg(\"rect\", { class: \"full\", width: 100, height: 4 }), svg(\"rect\", { class: \"used\", width: part, height: 4 })));
-}
-
-/**
- * What is left, in fields.
- * @param {Ahead} ahead
- * @returns {HTMLElement}
- */
-export function meters(ahead) {
-  const left = leftOf(ahead);
-  const made = [];
-  if (left.now !== null) {
-    made.push(meter(length(left.now), say.leftBreak, { left: left.now, most: 270, isFirst: true }));
-  }
-  if (left.day !== null) {
-    const [text, most] = left.nine ? [say.leftDay9, 540] : [say.leftDay, 600];
-    made.push(meter(length(left.day), text, { left: left.day, most, isFirst: true }));
-  }
-  if (left.long !== null && left.needsLong) {
-    made.push(meter(localMoment(left.long), say.leftLong));
-  } else if (left.rest !== null && left.long !== null) {
-    made.push(meter(localMoment(left.rest), left.long >= ahead.start ? say.leftRest(localTime(left.long)) : say.leftShort));
-  }
-  if (left.week !== null) {
-    const driven = say.driven(hm(left.weekDrive ?? 0));
-    made.push(meter(length(left.week), `${say.leftWeek} (${driven} ${say.of} 56:00)`, { left: left.week, most: 3360 }));
-  }
-  if (left.two !== null && !left.isYoung) {
-    made.push(meter(length(left.two), `${say.leftTwo} (${say.driven(hm(left.twoDrive))} ${say.of} 90:00)`, { left: left.two, most: 5400 }));
-  }
-  if (left.weekly !== null) {
-    made.push(meter(localMoment(left.weekly), say.leftWeekly));
-  }
-  return h(\"ul\", { class: \"meters\" }, made);
 }
 "
 }
@@ -6019,7 +5990,7 @@ const ACTIVITY = \"(rest|available|work|drive)\";
 // Of a name, an author or a note. Their lengths are limited in bytes; see `textIn`.
 const PLAIN = String.raw`([^\\x00-\\x1f\\x7f\",]*)`;
 
-/** The Article of each kind of breach. @type {Record<string, string>} */
+/** @type {Record<string, string>} The Article of each kind of breach. */
 export const ARTICLES = {
   B1: \"7\", B2: \"8(2)\", B3: \"8(4)\", B4: \"6(1)\", B5: \"6(1)\", B6: \"6(2)\", B7: \"6(3)\", B8: \"8(6)\", B9: \"8(6)\", B10: \"8(6b)\",
 };
@@ -6224,6 +6195,7 @@ function horizonOf(line) {
  */
 function stretchesOf(text, itemOf, inOrder) {
   const lines = linesOf(text);
+  /** @type {Array<Stretch<T>>} */
   const made = [];
   must(lines.length > 0);
   for (let at = 0; at < lines.length;) {
@@ -6281,7 +6253,7 @@ export function readDebts(text) {
  * @param {string} start
  * @param {string} past
  * @param {string} length
- * @returns {Evidence}
+ * @returns {Omit<Evidence, \"word\">}
  */
 function runOf(start, past, length) {
   const isOpen = start === \"-\" || past === \"-\";
@@ -6303,7 +6275,7 @@ function lengthIn(text, minutes) {
 
 /**
  * The lines of evidence, each under a letter: the word, the rest of the line, and what is made of its parts.
- * @type {Record<string, [string, string, (...parts: string[]) => object]>}
+ * @type {Record<string, [string, string, (...parts: string[]) => Omit<Evidence, \"word\">]>}
  */
 const LINES = {
   b: [\"break\", RUN, runOf],
@@ -6335,7 +6307,7 @@ const LINES = {
 };
 const LINE_FORMS = Object.fromEntries(Object.entries(LINES).map(([letter, [word, rest]]) => [letter, form(`${word} ${rest}`)]));
 
-/** The order of the lines of each rule, by their letters. @type {Record<string, RegExp>} */
+/** @type {Record<string, RegExp>} The order of the lines of each rule, by their letters. */
 const ORDERS = {
   B1: /^b[dr]*d[dr]*b$/, B2: /^ylr*p$/, B3: /^wk+$/, B4: /^yd+$/, B5: /^Wn+d+$/, B6: /^Wt+d+t*$/, B7: /^Dt*(?:td+t*)?Dt*(?:td+t*)?$/,
   B8: /^ww$/, B9: /^f[Wz]+i*$/, B10: /^Omo*$/,
@@ -6596,40 +6568,6 @@ export function readAhead(text) {
   };
 }
 
-/**
- * What is left, from a forecast: how much driving until the next break, in the day, in the week and in two weeks, and when the daily and
- * the weekly rest have to begin at the latest. Null: no limit is reached.
- * @param {Pick<Ahead, \"kinds\" | \"start\" | \"from\" | \"weeks\" | \"reduced\">} ahead
- * @returns {{now: number | null, day: number | null, nine: boolean, week: number | null, two: number | null, rest: number | null,
- *   long: number | null, needsLong: boolean, weekly: number | null, isYoung: boolean, weekDrive: number | null, twoDrive: number}}
- */
-export function leftOf({ kinds, start, from, weeks }) {
-  const left = (/** @type {string} */ kind) => kinds[kind]?.left ?? null;
-  const until = (/** @type {string} */ kind) => kinds[kind]?.until ?? null;
-  const least = (/** @type {Array<number | null>} */ all) => {
-    const known = /** @type {number[]} */ (all.filter((one) => one !== null));
-    return known.length > 0 ? Math.min(...known) : null;
-  };
-  const [ten, nine, rest, long] = [left(\"B4\"), left(\"B5\"), until(\"B2\"), until(\"B3\")];
-  return {
-    now: left(\"B1\"),
-    day: least([ten, nine]),
-    // Whether the two days of the week with more than nine hours are used.
-    nine: nine !== null && (ten === null || nine < ten),
-    week: left(\"B6\"),
-    two: left(\"B7\"),
-    rest,
-    // B3 is reached once the three reduced rests are used: then the rest of eleven hours has to begin in time.
-    long: long ?? (rest === null ? null : rest - 120),
-    needsLong: long !== null && (rest === null || long <= rest),
-    weekly: least([until(\"B8\"), until(\"B9\")]),
-    // What was driven in the week before isn't known.
-    isYoung: from > weekOf(start) - 7 * DAY,
-    weekDrive: weeks.at(-1)?.drive ?? null,
-    twoDrive: weeks.reduce((sum, one) => sum + one.drive, 0),
-  };
-}
-
 // Cards
 
 /** The states of Annex IC, by the first byte of a holder. */
@@ -6645,52 +6583,20 @@ export function cardOf(holder) {
   const [state, ...signs] = (holder.match(/../g) ?? []).map((pair) => parseInt(pair, 16));
   return `${STATES[state] ?? holder.slice(0, 2)} ${String.fromCharCode(...signs)}..`;
 }
-
-/**
- * A name in a card file: 35 bytes in a code page of ISO 8859.
- * @param {ArrayBuffer} file
- * @param {number} at where the code page stands; the name follows
- * @returns {string}
- */
-function nameIn(file, at) {
-  const page = new DataView(file).getUint8(at);
-  // There are no other parts of ISO 8859.
-  const part = page > 0 && page <= 16 && page !== 12 ? page : 1;
-  return new TextDecoder(`iso-8859-${part}`).decode(new Uint8Array(file, at + 1, 35)).replace(/[\\0 ]+$/, \"\");
-}
-
-/**
- * Whose a card file is, by its EF Identification (0520) of either generation. Nothing is judged by it: the archive reads the file itself.
- * @param {ArrayBuffer} file
- * @returns {{holder: string, name: string} | null}
- */
-export function holderOf(file) {
-  const view = new DataView(file);
-  for (let at = 0; at + 5 <= view.byteLength;) {
-    const [id, kind, size] = [view.getUint16(at), view.getUint8(at + 2), view.getUint16(at + 3)];
-    const start = at + 5;
-    if (id === 0x0520 && (kind === 0 || kind === 2) && size >= 143 && start + 143 <= view.byteLength) {
-      const holder = [...new Uint8Array(file, start, 15)].map((one) => one.toString(16).padStart(2, \"0\")).join(\"\");
-      return { holder, name: `${nameIn(file, start + 101)} ${nameIn(file, start + 65)}`.trim() };
-    }
-    at = start + size;
-  }
-  return null;
-}
 "
 }
 
 /// The text at `/shared/say.js`.
 fn shared_say_js() -> &'static str {
-    "// The language, and how times and lengths are said in it. Its sentences are in two files, words-en.js or words-de.js: those of both pages
-// in shared/, the others in the page's own folder. Only the files of the language that is shown are loaded.
-import { moduleAt } from \"./page.js\";
+    "// The language, and how times, lengths and debts are said in it. Its sentences are in two files, words-en.js or words-de.js: those of both
+// pages in shared/, the others in the page's own folder. Only the files of the language that is shown are loaded.
+import { h, moduleAt } from \"./page.js\";
 import { DAY, dateOf, localText, minuteOf, textOf, weekdayOf } from \"./time.js\";
 
 /** Where the language is kept: in localStorage, since it is no secret and holds for all visits. */
 const PLACE = \"tacho.language\";
 
-/** The languages that there are, each with its own name. @type {Array<[string, string]>} */
+/** @type {Array<[string, string]>} The languages that there are, each with its own name. */
 export const LANGUAGES = [[\"en\", \"English\"], [\"de\", \"Deutsch\"]];
 
 /**
@@ -6715,7 +6621,7 @@ async function wordsOf(language) {
 
 let language = firstLanguage();
 
-/** The sentences of the present language. There are none before `ready`. @type {Record<string, any>} */
+/** @type {Record<string, any>} The sentences of the present language. There are none before `ready`. */
 export let say = {};
 
 /** A page waits for this before it shows anything. */
@@ -6918,6 +6824,15 @@ export function daysSince(minute, present) {
   return Math.floor((dayOf(present) - dayOf(minute - 1)) / DAY);
 }
 
+/**
+ * A sentence whose lengths, such as '4 h 30', no end of a line divides.
+ * @param {string} text
+ * @returns {string}
+ */
+export function undivided(text) {
+  return text.replace(/(\\d) (h|min|minutes|Minuten)\\b/g, \"$1\\u00a0$2\").replace(/(h) (\\d\\d)\\b/g, \"$1\\u00a0$2\");
+}
+
 // Breaches
 
 /** The sentences on the amount of a breach; of the other kinds it is how much is over the limit. */
@@ -6934,16 +6849,47 @@ export function amountText({ kind, amount }) {
   }
   return kind === \"B3\" ? `+${amount}` : say[AMOUNTS.get(kind) ?? \"overBy\"](length(amount));
 }
+
+// Debts
+
+/** @import { Debt } from \"./read.js\" */
+
+/**
+ * The rest that is to be made up, and below it the rest that was. Where the examination broke off, it isn't known what became of a debt.
+ * @param {Array<import(\"./read.js\").Stretch<Debt>>} stretches
+ * @returns {import(\"./page.js\").Child}
+ */
+export function debtsPart(stretches) {
+  const last = stretches.at(-1);
+  const open = last === undefined ? [] : last.items.filter((debt) => debt.end !== \"paid\");
+  const before = stretches.slice(0, -1).flatMap((one) => one.items);
+  const broken = before.filter((debt) => debt.end === \"open\" && debt.by > (last?.horizon ?? 0));
+  const paid = stretches.flatMap((one) => one.items).filter((debt) => debt.end === \"paid\").reverse();
+  const item = (/** @type {Debt} */ debt, /** @type {string} */ sentence, /** @type {string} */ kind) =>
+    h(\"li\", { class: kind }, undivided(say[sentence](utcDay(debt.week), length(debt.owes), both(debt.by))));
+  const items = [
+    ...open.map((debt) => (debt.end === \"late\" ? item(debt, \"debtLate\", \"box bad\") : item(debt, \"debt\", \"box warn\"))),
+    ...broken.map((debt) => item(debt, \"debtBroken\", \"box warn\")),
+  ];
+  const paidItem = (/** @type {Debt} */ debt) =>
+    h(\"li\", {}, undivided(say.debtWas(utcDay(debt.week), length(debt.owes), both(/** @type {number} */ (debt.at)))));
+  return [
+    items.length > 0 ? h(\"ul\", { class: \"list\" }, items) : h(\"p\", {}, say.noDebts),
+    paid.length > 0 ? h(\"details\", {}, h(\"summary\", {}, say.debtPaid(paid.length)), h(\"ul\", {}, paid.slice(0, 12).map(paidItem))) : null,
+  ];
+}
 "
 }
 
 /// The text at `/shared/tables.js`.
 fn shared_tables_js() -> &'static str {
-    "// What the replies in CSV say (docs/FORMATS.md): a row for each driver, or for each breach. A text of another form is a problem.
-import { Problem } from \"./page.js\";
-import { minuteOf } from \"./time.js\";
+    "// What the replies in CSV say (docs/FORMATS.md): a row for each driver, or for each breach. A text of another form is a problem. Below them:
+// what is left, by a forecast.
+import { Problem, h, svg } from \"./page.js\";
+import { hm, length, localMoment, localTime, say, undivided } from \"./say.js\";
+import { DAY, minuteOf, weekOf } from \"./time.js\";
 
-const DAY = /^\\d{4}-\\d\\d-\\d\\d$/, MOMENT = /^\\d{4}-\\d\\d-\\d\\d \\d\\d:\\d\\d$/, NUMBER = /^\\d+$/;
+const DATE = /^\\d{4}-\\d\\d-\\d\\d$/, MOMENT = /^\\d{4}-\\d\\d-\\d\\d \\d\\d:\\d\\d$/, NUMBER = /^\\d+$/;
 const RULES = [\"B1\", \"B2\", \"B3\", \"B4\", \"B5\", \"B6\", \"B7\", \"B8\", \"B9\"];
 
 /** @type {(form: RegExp, read: (text: string) => any) => (text: string) => any} reads a cell that has a form */
@@ -6951,12 +6897,12 @@ const cell = (form, read) => (text) => {
   if (!form.test(text)) throw new Problem(\"unreadable\");
   return read(text);
 };
-const number = cell(NUMBER, Number), day = cell(DAY, minuteOf), moment = cell(MOMENT, minuteOf), word = (text) => text;
+const number = cell(NUMBER, Number), day = cell(DATE, minuteOf), moment = cell(MOMENT, minuteOf), word = String;
 /** @type {(read: (text: string) => any) => (text: string) => any} a cell that may be empty */
 const orNone = (read) => (text) => (text === \"\" ? null : read(text));
 
 /** The rows of a text with given columns: how each is named and read.
- * @type {(text: string, columns: Record<string, (text: string) => any>) => Record<string, any>[]} */
+ * @type {(text: string, columns: Record<string, (text: string) => any>) => any[]} */
 function rowsOf(text, columns) {
   const names = Object.keys(columns);
   const [head, ...rows] = text.split(\"\\n\");
@@ -7011,6 +6957,91 @@ export const readIncidents = (text) => rowsOf(text, {
   driver: number, name: word, kind: cell(/^B([1-9]|10)$/, String), article: cell(/^Art \\S+$/, String), moment, since: moment,
     amount: number,
 });
+
+// What is left
+
+/**
+ * What is left, from a forecast: how much driving until the next break, in the day, in the week and in two weeks, and when the daily and
+ * the weekly rest have to begin at the latest. Null: no limit is reached.
+ * @param {Pick<import(\"./read.js\").Ahead, \"kinds\" | \"start\" | \"from\" | \"weeks\" | \"reduced\">} ahead
+ */
+export function leftOf({ kinds, start, from, weeks }) {
+  const left = (/** @type {string} */ kind) => kinds[kind]?.left ?? null;
+  const until = (/** @type {string} */ kind) => kinds[kind]?.until ?? null;
+  const least = (/** @type {Array<number | null>} */ all) => {
+    const known = /** @type {number[]} */ (all.filter((one) => one !== null));
+    return known.length > 0 ? Math.min(...known) : null;
+  };
+  const [ten, nine, rest, long] = [left(\"B4\"), left(\"B5\"), until(\"B2\"), until(\"B3\")];
+  return {
+    now: left(\"B1\"),
+    day: least([ten, nine]),
+    // Whether the two days of the week with more than nine hours are used.
+    nine: nine !== null && (ten === null || nine < ten),
+    week: left(\"B6\"),
+    two: left(\"B7\"),
+    rest,
+    // B3 is reached once the three reduced rests are used: then the rest of eleven hours has to begin in time.
+    long: long ?? (rest === null ? null : rest - 120),
+    needsLong: long !== null && (rest === null || long <= rest),
+    weekly: least([until(\"B8\"), until(\"B9\")]),
+    // What was driven in the week before isn't known.
+    isYoung: from > weekOf(start) - 7 * DAY,
+    weekDrive: weeks.at(-1)?.drive ?? null,
+    twoDrive: weeks.reduce((sum, one) => sum + one.drive, 0),
+  };
+}
+
+/**
+ * A field with what is left: a length with a bar, or a moment.
+ * @param {string} value
+ * @param {string} text
+ * @param {{left: number, most: number, isFirst?: boolean} | null} [amount] null for a moment
+ * @returns {HTMLElement}
+ */
+function meter(value, text, amount = null) {
+  if (amount === null) {
+    return h(\"li\", { class: \"meter moment\" }, h(\"b\", {}, value), h(\"span\", {}, undivided(text)));
+  }
+  const { left, most, isFirst } = amount;
+  const part = Math.max(0, Math.min(100, 100 * left / most));
+  return h(\"li\", { class: `meter${part < 10 ? \" low\" : \"\"}${isFirst ? \" first\" : \"\"}` }, h(\"b\", {}, value), h(\"span\", {}, undivided(text)),
+    svg(\"svg\", { viewBox: \"0 0 100 4\", preserveAspectRatio: \"none\", \"aria-hidden\": \"true\" },
+      svg(\"rect\", { class: \"full\", width: 100, height: 4 }), svg(\"rect\", { class: \"used\", width: part, height: 4 })));
+}
+
+/**
+ * What is left, in fields.
+ * @param {import(\"./read.js\").Ahead} ahead
+ * @returns {HTMLElement}
+ */
+export function meters(ahead) {
+  const left = leftOf(ahead);
+  const made = [];
+  if (left.now !== null) {
+    made.push(meter(length(left.now), say.leftBreak, { left: left.now, most: 270, isFirst: true }));
+  }
+  if (left.day !== null) {
+    const [text, most] = left.nine ? [say.leftDay9, 540] : [say.leftDay, 600];
+    made.push(meter(length(left.day), text, { left: left.day, most, isFirst: true }));
+  }
+  if (left.long !== null && left.needsLong) {
+    made.push(meter(localMoment(left.long), say.leftLong));
+  } else if (left.rest !== null && left.long !== null) {
+    made.push(meter(localMoment(left.rest), left.long >= ahead.start ? say.leftRest(localTime(left.long)) : say.leftShort));
+  }
+  if (left.week !== null) {
+    const driven = say.driven(hm(left.weekDrive ?? 0));
+    made.push(meter(length(left.week), `${say.leftWeek} (${driven} ${say.of} 56:00)`, { left: left.week, most: 3360 }));
+  }
+  if (left.two !== null && !left.isYoung) {
+    made.push(meter(length(left.two), `${say.leftTwo} (${say.driven(hm(left.twoDrive))} ${say.of} 90:00)`, { left: left.two, most: 5400 }));
+  }
+  if (left.weekly !== null) {
+    made.push(meter(localMoment(left.weekly), say.leftWeekly));
+  }
+  return h(\"ul\", { class: \"meters\" }, made);
+}
 "
 }
 
