@@ -248,8 +248,8 @@ class Site:
                     self.command(word, *(["both"] if word == "import" else [number]), given=text)
             self.serving = stack.enter_context(Serving(self.program, self.path, OFFICE, MOST_CONNECTIONS, listens=True))
             service = self.serving.port
-            # The limit of requests is far above what the check asks for. office_guide.py tries it as it is.
-            changes = [("rate=10r/s", "rate=10000r/s"), ("burst=60", "burst=10000")]
+            # proxy_limits.py tries the limits of requests as they are.
+            changes = [*proxy.UNLIMITED]
             self.shut = stack.enter_context(proxy.Proxy(os.path.join(self.folder, "shut"), free_port(), service, changes))
             changes.append(proxy.OPENED)
             self.open = stack.enter_context(proxy.Proxy(os.path.join(self.folder, "open"), free_port(), service, changes))

@@ -21,7 +21,7 @@ import tempfile
 import time
 
 from inputs.random_commands import hours_csv
-from lib import counting, files, old_archive, tars
+from lib import counting, files, old_archive, tars, units
 from lib.archive import tables
 from lib.files import EXAMPLES, TOP, read
 from lib.office_rows import ANNA, CREW_DAY, DAY, HOLDER, OTHER_DAY
@@ -36,6 +36,7 @@ unit=$ROOT/etc/systemd/system/tacho.service
 command() { sed -n "s/^$1=-*//p" "$unit"; }
 case $* in
 "start tacho" | "enable --now tacho")
+    kill -0 "$(cat "$ROOT/pid")" 2>/dev/null && exit
     eval "exec $(command ExecStart)" >"$ROOT/journal" 2>&1 <"$(command StandardInput | sed 's/^file://')" &
     echo $! >"$ROOT/pid"
     tries=0
@@ -180,7 +181,7 @@ class Office:
 
     def here(self, text):
         """A text of the page with the machine's folders and the port in this one's place."""
-        for folder in ("/var/lib/", "/var/backups/", "/etc/", "/usr/local/bin/", "/usr/local/share/"):
+        for folder in ("/var/lib/", "/var/backups/", "/etc/", "/usr/local/bin/", "/usr/local/lib/", "/usr/local/share/"):
             text = text.replace(folder, f"{self.root}{folder}")
         return text.replace("8017", str(self.port)).replace(f"{self.root}/dev", "/dev")
 
@@ -782,12 +783,14 @@ def services(office):
     yield office.typed("systemctl stop tacho\nrm -f", "")
     yield "what is served after the restore", office.type(asked), before
     yield from updated(office)
-    yield office.typed_there("install -m 644 examples/tacho-backup.service", "")
-    copies = unit_commands(office, "tacho-backup.service")
-    yield "the commands of the backup's unit", office.run("\n".join(copies)), ("", 0)
-    made = os.listdir(os.path.join(root, "var/backups/tacho"))
-    copied = [sorted(os.listdir(os.path.join(root, "var/backups/tacho", name))) for name in made]
-    yield "what it has copied", copied, [["archive.db", "archive.db-wal"]]
+    yield office.typed_there("install -D -m 755 examples/tacho-backup.sh", "")
+    made = os.path.join(root, "var/backups/tacho")
+    places = {units.PLACE: root + units.PLACE, "/usr/bin/": "", "--no-block ": "", "/var/backups/tacho": made}
+    environment = {**office.environment, "FROM": os.path.join(root, "var/lib/tacho"), "TO": made}
+    yield "the commands of the backup's unit", units.play("tacho-backup.service", places, environment), 0
+    named = office.type(office.block("cat /var/backups/tacho/last-good"))[0].strip()
+    yield "what it has copied", sorted(os.listdir(os.path.join(made, named))), ["archive.db", "archive.db-wal"]
+    yield "the service after it", office.type(sign), ("403\n", 0)
     yield office.typed_there("install -m 644 examples/nginx.conf", "")
     installed = os.path.join(root, "etc/nginx/conf.d/tacho.conf")
     yield "the configuration of nginx as it is installed", (read(installed), mode(installed)), \
@@ -828,8 +831,8 @@ def proxied(office: Office) -> counting.Comparisons:
         address = f"https://127.0.0.1:{proxy.port}"
         yield from by_proxy(office, address, "with uploads open", b"repeated driver 17\n200")
         owed = f"{address}/me/owed"
-        told = statuses(300, "-H", "x-key: anna-key-1", owed)
-        yield "who asks too often", (told[:60], sorted({*told})), (["200"] * 60, ["200", "429"])
+        told = statuses(600, "-H", "x-key: anna-key-1", owed)
+        yield "who asks too often", (told[:150], sorted({*told})), (["200"] * 150, ["200", "429"])
         office.type("systemctl stop tacho")
         told = "429"
         while told == "429":
@@ -861,14 +864,6 @@ def by_proxy(office: Office, address: str, name: str, taken: bytes) -> counting.
         told = subprocess.run([*ask, "--data-binary", f"@{office.path(file)}", f"{address}/me/cards/both"], capture_output=True).stdout
         yield f"{file} by the proxy {name}", told[-len(wanted):], wanted
     yield f"without a key by the proxy {name}", status(f"{address}/me/owed"), "403"
-
-
-def unit_commands(office, name):
-    """The commands of a unit in order, as systemd reads them: lines are joined, and `%%` and `$$` are one character."""
-    with open(os.path.join(office.sources, "examples", name), encoding="utf-8") as file:
-        text = file.read().replace("\\\n", " ").replace("%%", "%").replace("$$", "$")
-    commands = re.findall(r"^Exec(?:Start|StopPost)=-?(.*)$", text, re.MULTILINE)
-    return [command.replace("/usr/bin/systemctl", "systemctl").replace("--no-block ", "") for command in commands]
 
 
 def served_by_hand(office):

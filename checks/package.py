@@ -1,7 +1,8 @@
 #!/usr/bin/env python3
 """Makes the packages of the program (build/package) twice, under different circumstances, and compares their bytes, their digests, and the
 owners, modes and times in them. Installs the Debian package by dpkg in a root of its own, runs the tour there as the user `tacho`, updates
-the package, removes it and purges it, with and without an archive, and compares what is left. Runs the tour from the tar file. Compares the
+the package, removes it and purges it, with and without an archive, and compares what is left. Installs it where a user or a group `tacho`
+is there before, and where the archive's folder is a link. Asks lintian for errors. Runs the tour from the tar file. Compares the
 man page with what the program prints for `tacho help` and `tacho help COMMAND`, the commands and requests that README.md and
 docs/FORMATS.md list with build/commands.csv, and CHANGELOG.md and `tacho version` with VERSION.
 
@@ -13,11 +14,13 @@ import io
 import os
 import re
 import shutil
+import struct
 import subprocess
 import sys
 import tarfile
 import tempfile
 import time
+from collections.abc import Callable
 
 from lib import counting, root
 from lib.commands import COMMANDS, REQUESTS
@@ -36,7 +39,7 @@ ARCHIVE = "/var/lib/tacho/archive.db"
 USERS = ["/etc/group", "/etc/gshadow", "/etc/passwd", "/etc/shadow"]
 
 # The files of a Debian package that may be executed, and the folders that not everyone may read.
-EXECUTABLE = ["usr/bin/tacho", f"{DOCUMENTS}/examples/tour"]
+EXECUTABLE = ["usr/bin/tacho", "usr/lib/tacho/backup", f"{DOCUMENTS}/examples/tour"]
 SHUT = {"etc/tacho": 0o700}
 
 # A second making: nothing of this may change a byte.
@@ -235,15 +238,17 @@ def packages(program: str, folder: str, made: dict[str, bytes]) -> Comparisons:
     whole = told_by(["dpkg-deb", "--fsys-tarfile", os.path.join(folder, debian)])[0]
     yield from contents("the Debian package", whole, "./", f"{DOCUMENTS}/{SUMS}", {**dict.fromkeys(EXECUTABLE, 0o755), **SHUT})
     head = f"tacho-{version()}/"
-    yield from contents("the tar file", gzip.decompress(made[tar]), head, SUMS, dict.fromkeys(["examples/tour", "tacho"], 0o755))
+    executable = dict.fromkeys(["examples/tacho-backup.sh", "examples/tour", "tacho"], 0o755)
+    yield from contents("the tar file", gzip.decompress(made[tar]), head, SUMS, executable)
     yield "the times of gzip", (made[tar][4:8], made[tar][3]), (bytes(4), 0)
+    yield from for_debian(os.path.join(folder, debian))
     told = told_by(["dpkg-deb", "-f", os.path.join(folder, debian), "Version"])[0]
     yield "the version of the Debian package", told, f"{version()}\n".encode()
     with tempfile.TemporaryDirectory() as unpacked:
         with tarfile.open(os.path.join(folder, tar)) as archive:
             archive.extractall(unpacked)
         top = os.path.join(unpacked, head)
-        yield "the program of the tar file", read(os.path.join(top, "tacho")) == read(program), True
+        yield from packed_program("the program of the tar file", os.path.join(top, "tacho"), program)
         yield "the man page of the tar file", read(os.path.join(top, "tacho.1")), told_by([MANUAL])[0]
         yield from tour("the tour of the tar file", told_by([os.path.join(top, "examples", "tour")]))
 
@@ -261,6 +266,46 @@ def of_tomorrow(program: str, folder: str) -> Comparisons:
                 yield f"the times in {name} of tomorrow", {entry.mtime for entry in packed}, {epoch}
 
 
+def loaded(program: bytes) -> list[tuple[int, bytes]]:
+    """The parts of a program that are loaded into memory: the address and the bytes of each. The head of the file, which is loaded too, is
+    left out, since it says where the symbols are."""
+    start, = struct.unpack_from("<Q", program, 32)
+    size, count = struct.unpack_from("<HH", program, 54)
+    heads = [struct.unpack_from("<IIQQQQ", program, start + size * number) for number in range(count)]
+    return [(address, program[offset or 64:offset + length]) for kind, _, offset, address, _, length in heads if kind == 1]
+
+
+def sections(path: str) -> list[str]:
+    """The names of a program's sections."""
+    return re.findall(r"\] (\.\S+)", told_by(["readelf", "-SW", path], env={**os.environ, "LC_ALL": "C"})[0].decode())
+
+
+def packed_program(name: str, path: str, program: str) -> Comparisons:
+    """A program in a package: that which was given, without its symbols."""
+    yield f"{name}: what is loaded", loaded(read(path)) == loaded(read(program)), True
+    yield f"{name}: its version", told_by([path, "version"]), told_by([program, "version"])
+    if shutil.which("readelf"):
+        yield f"{name}: its symbols", {".symtab", ".debug_info"} & {*sections(path)}, set()
+    else:
+        print("left out: whether the packed program has symbols: apt install binutils", flush=True)
+
+
+def for_debian(path: str) -> Comparisons:
+    """What Debian asks for: a list of changes, the copyright, and what else lintian calls an error."""
+    with tempfile.TemporaryDirectory() as unpacked:
+        told_by(["dpkg-deb", "-x", path, unpacked])
+        changes = content(os.path.join(unpacked, DOCUMENTS, "changelog.gz"))
+        text = gzip.decompress(changes).decode() if changes else ""
+        yield "the first line of the list of changes", text.partition("\n")[0], f"tacho ({version()}) unstable; urgency=medium"
+        copyrights = (content(os.path.join(unpacked, DOCUMENTS, "copyright")) or b"").decode()
+        yield "the copyright", "Copyright the authors of Mansulip. No licence is given; ask the owner." in copyrights, True
+    if shutil.which("lintian"):
+        told = told_by(["lintian", "--allow-root", path])[0].decode().splitlines()
+        yield "the errors that lintian reports", [line for line in told if line.startswith("E: ")], []
+    else:
+        print("left out: what lintian says about the Debian package: apt install lintian", flush=True)
+
+
 def tour(name: str, told: tuple[bytes, int, bytes]) -> Comparisons:
     """What the tour has printed, line by line, and its status."""
     yield name, told[0].decode().splitlines() + [told[1]], read(os.path.join(EXAMPLES, "tour.expected")).decode().splitlines() + [0]
@@ -270,7 +315,7 @@ def tour(name: str, told: tuple[bytes, int, bytes]) -> Comparisons:
 
 def installed(place: Root, program: str) -> Comparisons:
     """What the first installation has made: a user, its folder, and the files. Nothing is enabled."""
-    yield "an installed program", read(place.path("usr/bin/tacho")) == read(program), True
+    yield from packed_program("the installed program", place.path("usr/bin/tacho"), program)
     yield "the installed man page", gzip.decompress(read(place.path("usr/share/man/man1/tacho.1.gz"))), told_by([MANUAL])[0]
     user = place.user("tacho")
     yield "whether there is a user", user is not None and 0 < user[0] < 1000, True
@@ -296,11 +341,13 @@ def units(place: Root) -> Comparisons:
     for name in ("tacho.service", "tacho-backup.service", "tacho-backup.timer"):
         text = read(os.path.join(EXAMPLES, name)).decode()
         told = (content(place.path(f"{UNITS}/{name}")) or b"").decode()
-        yield f"the unit {name}", told, text.replace("/usr/local/bin/tacho", "/usr/bin/tacho")
-    text = (content(place.path(f"{UNITS}/tacho.service")) or b"").decode()
-    named = sorted({*re.findall(r"/usr/[a-z/]*tacho[a-z/]*", text)})
-    yield "the places that the service's unit names, and whether they are there", \
-        [(path, os.path.exists(place.path(path))) for path in named], [("/usr/bin/tacho", True)]
+        yield f"the unit {name}", told.splitlines(), text.replace("/usr/local/", "/usr/").splitlines()
+    for name, path in (("tacho.service", "/usr/bin/tacho"), ("tacho-backup.service", "/usr/lib/tacho/backup")):
+        text = (content(place.path(f"{UNITS}/{name}")) or b"").decode()
+        named = sorted({*re.findall(r"/usr/[a-z/]*tacho[a-z/]*", text)})
+        yield f"the places that {name} names, and who may run them", \
+            [(path, place.places().get(path, ("",))[0]) for path in named], [(path, "-rwxr-xr-x")]
+    yield "the script of the backup", content(place.path("usr/lib/tacho/backup")), read(os.path.join(EXAMPLES, "tacho-backup.sh"))
 
 
 def used(place: Root) -> Comparisons:
@@ -344,7 +391,49 @@ def removals(place: Root, package: str, before: dict[str, root.Place]) -> Compar
         if path != "/var/lib/tacho":
             os.remove(place.path(path))
     yield "a purge without an archive", place.dpkg("--purge", "tacho")[0], 0
-    yield "what is left after it", root.changes(before, place.places()), []
+    yield "what is left after it", (root.changes(before, place.places()), place.user("tacho")), (USERS, user)
+
+
+# Accounts that a person has made before the installation. Each is a line of a file.
+GROUP = ("etc/group", "tacho:x:990:anna")
+USER = ("etc/passwd", "tacho:x:991:100:Anna:/home/anna:/bin/sh")
+FOLDER = "/var/lib/tacho"
+
+
+def other_accounts(make: Callable[[str], Root], package: str) -> Comparisons:
+    """Installations where there is a group `tacho` without the user, or a user without the group: they use it. A purge leaves it."""
+    for name, (path, line), number in (("a group without a user", GROUP, (None, 990)), ("a user without a group", USER, (991, 100))):
+        place = make(name)
+        place.add(path, line)
+        yield f"{name}: the installation", place.dpkg("--install", package), (0, b"")
+        user = place.user("tacho") or (0, 0)
+        yield f"{name}: the user", user, (number[0] or user[0], number[1])
+        yield f"{name}: the folder", place.places().get(FOLDER), ("drwx------", *user, b"")
+        lines = {path: read(place.path(path)) for path in ("etc/group", "etc/passwd")}
+        yield f"{name}: the line", f"\n{line}\n".encode() in lines[path], True
+        yield f"{name}: a purge", place.dpkg("--purge", "tacho")[0], 0
+        yield f"{name}: the accounts after it", {path: read(place.path(path)) for path in lines} == lines, True
+
+
+def links(make: Callable[[str], Root], package: str) -> Comparisons:
+    """Installations where the archive's folder is a link: to nothing, which is refused, and to a disk, which is away at the purge."""
+    place = make("a link")
+    os.makedirs(place.path("srv"))
+    os.symlink("/srv/tacho", place.path(FOLDER))
+    status, said = place.dpkg("--install", package)
+    sentence = b"tacho: Mount its disk, or remove it. Then give: dpkg --configure tacho\n"
+    yield "a link that leads nowhere", (status, sentence in said, place.user("tacho")), (1, True, None)
+    os.mkdir(place.path("srv/tacho"))
+    yield "the same with the disk", place.dpkg("--configure", "tacho"), (0, b"")
+    user = place.user("tacho")
+    yield "a link to a disk", (user is not None, os.readlink(place.path(FOLDER))), (True, "/srv/tacho")
+    os.rmdir(place.path("srv/tacho"))
+    yield "a purge without the disk", (place.dpkg("--purge", "tacho")[0], place.user("tacho")), (0, user)
+    yield "the link then", os.path.islink(place.path(FOLDER)), True
+    place = make("a file")
+    place.write(FOLDER, "", 0o644)
+    status, said = place.dpkg("--install", package)
+    yield "a file in the folder's place", (status, sentence in said, place.user("tacho")), (1, True, None)
 
 
 def systemd_calls(place: Root, package: str) -> Comparisons:
@@ -353,8 +442,8 @@ def systemd_calls(place: Root, package: str) -> Comparisons:
     place.write("usr/bin/systemctl", "#!/bin/sh\necho \"$*\" >>/calls\n", 0o755)
     os.makedirs(place.path("run/systemd/system"))
     restart = ["daemon-reload", "try-restart tacho.service"]
-    stop = "stop tacho-backup.timer tacho-backup.service tacho.service"
-    end = [stop, "--quiet disable tacho-backup.timer tacho.service", "daemon-reload"]
+    stop = ["stop tacho-backup.timer tacho-backup.service", "stop tacho.service"]
+    end = [*stop, "--quiet disable tacho-backup.timer tacho.service", "daemon-reload"]
     for words, wanted in (["--install", package], restart), (["--install", package], restart), (["--remove", "tacho"], end), \
             (["--purge", "tacho"], []):
         place.write("calls", "", 0o644)
@@ -372,9 +461,15 @@ def installation(program: str, folder: str, package: str) -> Comparisons:
     if not root.is_possible():
         print("left out: the installation of the package in a root of its own: run this check as root", flush=True)
         return
-    os.mkdir(folder)
-    os.chmod(folder, 0o755)
-    place = Root(folder, program)
+
+    def make(name: str) -> Root:
+        path = os.path.join(folder, name)
+        os.makedirs(path)
+        for part in (folder, path):
+            os.chmod(part, 0o755)
+        return Root(path, program)
+
+    place = make("root")
     before = place.places()
     told = place.dpkg("--install", package)
     yield "the installation", told, (0, b"")
@@ -384,6 +479,8 @@ def installation(program: str, folder: str, package: str) -> Comparisons:
     yield from used(place)
     yield from removals(place, package, before)
     yield from systemd_calls(place, package)
+    yield from other_accounts(make, package)
+    yield from links(make, package)
 
 
 def comparisons(program: str) -> Comparisons:
@@ -412,7 +509,7 @@ def comparisons(program: str) -> Comparisons:
         yield "the same packages once more", (status, [name for name in made if again.get(name) != made[name]]), (0, [])
         yield from of_tomorrow(program, os.path.join(folder, "tomorrow"))
         yield from packages(program, os.path.join(folder, "made"), made)
-        yield from installation(program, os.path.join(folder, "root"), os.path.join(folder, "made", f"tacho_{version()}_amd64.deb"))
+        yield from installation(program, os.path.join(folder, "roots"), os.path.join(folder, "made", f"tacho_{version()}_amd64.deb"))
 
 
 if __name__ == "__main__":

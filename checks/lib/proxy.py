@@ -5,12 +5,19 @@ import subprocess
 from collections.abc import Iterable
 
 from lib.files import EXAMPLES
+from lib.server import free_port
 
 PROGRAMS = ("nginx", "openssl")
 UPLOADS = "set $uploads shut;"
 
 Change = tuple[str, str]  # a text of the example, and the one in its place
 OPENED: Change = (UPLOADS, UPLOADS.replace("shut", "open"))
+
+# Limits far above what a check asks for.
+UNLIMITED: list[Change] = [
+    *((f"rate={rate};", "rate=10000r/s;") for rate in ("10r/s", "30r/m", "5r/s")),
+    *((f"burst={burst} ", "burst=10000 ") for burst in (150, 20, 100)),
+]
 
 NGINX = """daemon off;
 {user}
@@ -46,7 +53,8 @@ class Proxy:
     def __init__(self, root: str, port: int, service: int, changes: Iterable[Change] = ()) -> None:
         """Starts nginx. `changes` are texts of the example that are replaced: each has to be in it."""
         text = example()
-        own = [("listen 443", f"listen 127.0.0.1:{port}"), ("/etc/nginx/", f"{root}/"), ("127.0.0.1:8017", f"127.0.0.1:{service}")]
+        own = [("listen 443", f"listen 127.0.0.1:{port}"), ("/etc/nginx/", f"{root}/"), ("127.0.0.1:8017", f"127.0.0.1:{service}"),
+               ("127.0.0.1:8018", f"127.0.0.1:{free_port()}"), ("/run/tacho-keys", f"{root}/keys")]
         for old, new in [*own, *changes]:
             if old not in text:
                 raise RuntimeError(f"examples/nginx.conf has no '{old}'")

@@ -11,14 +11,16 @@ from lib.files import read
 from lib.programs import Told, told_by
 
 # The programs that are copied into the root, and those that are copied if this machine has them.
-PROGRAMS = ["sh", "getent", "useradd", "userdel", "install", "rm", "rmdir", "mktemp", "dirname", "nologin"]
+PROGRAMS = ["sh", "getent", "id", "useradd", "userdel", "install", "rm", "rmdir", "mktemp", "dirname", "nologin"]
 IF_INSTALLED = ["systemctl"]
-FOLDERS = ["usr/bin", "usr/sbin", "usr/lib", "usr/lib64", "etc/systemd/system", "dev", "var/lib/dpkg/updates", "var/lib/dpkg/info"]
+FOLDERS = ["usr/bin", "usr/sbin", "usr/lib", "usr/lib64", "etc/systemd/system", "dev", "proc/self", "var/lib/dpkg/updates",
+           "var/lib/dpkg/info"]
 PATH = "/usr/sbin:/usr/bin:/sbin:/bin"
 ENVIRONMENT = {"PATH": PATH, "LC_ALL": "C"}
 
-# What `useradd` and dpkg leave, which isn't compared: copies of the files that they have changed, and what dpkg knows.
-UNSEEN = re.compile(r"/etc/(passwd|group|shadow|gshadow)-|/etc/\.pwd\.lock|/var/lib/dpkg(/.*)?")
+# What isn't compared: what `useradd` and dpkg leave, which are copies of the files that they have changed and what dpkg knows; and what
+# runs.
+UNSEEN = re.compile(r"/etc/(passwd|group|shadow|gshadow)-|/etc/\.pwd\.lock|/var/lib/dpkg(/.*)?|/proc(/.*)?")
 
 # Packages that dpkg believes installed: of the C library the version of this machine.
 KNOWN = """Package: {name}
@@ -99,12 +101,20 @@ class Root:
 
     def run(self, *words: str, user: tuple[int, int] = (0, 0), given: bytes = b"") -> Told:
         """What a program in the root prints, its status, and what it prints on standard error. It runs as a user of a group."""
+        # The owner of this folder is how a program learns its user.
+        os.chown(self.path("proc/self"), *user)
         return told_by(["chroot", f"--userspec={user[0]}:{user[1]}", self.folder, *words], given, env=ENVIRONMENT)
 
+    def add(self, name: str, line: str) -> None:
+        """Adds a line to a file."""
+        with open(self.path(name), "a", encoding="utf-8") as file:
+            file.write(f"{line}\n")
+
     def dpkg(self, *words: str) -> tuple[int, bytes]:
-        """The status of dpkg on this root, and what it prints on standard error. This machine's own settings leave out nothing."""
-        command = ["dpkg", f"--root={self.folder}", f"--log={self.folder}/var/lib/dpkg/log", "--path-include=/*", *words]
-        run = subprocess.run(command, stdin=subprocess.DEVNULL, capture_output=True, env=ENVIRONMENT)
+        """The status of dpkg on this root, and what it prints on standard error. This machine's own settings leave out nothing. It doesn't
+        wait for the disk."""
+        command = ["dpkg", f"--root={self.folder}", f"--log={self.folder}/var/lib/dpkg/log", "--path-include=/*", "--force-unsafe-io"]
+        run = subprocess.run([*command, *words], stdin=subprocess.DEVNULL, capture_output=True, env=ENVIRONMENT)
         return run.returncode, run.stderr
 
     def user(self, name: str) -> tuple[int, int] | None:
