@@ -25,6 +25,9 @@ const EROFS: i32 = 30;
 
 /// The probable cause for which the archive at a path can't be used, or made if `makes`.
 pub fn cause_of(rt: &HostRuntime, path: &str, makes: bool) -> &'static str {
+    if user_of_process(rt).is_err() {
+        return "the system does not say who runs the program: /proc is not there";
+    }
     if let Some(cause) = cause_of_log(rt, path) {
         return cause;
     }
