@@ -991,7 +991,8 @@ def budget(office: Office) -> Comparisons:
         sizes = sum(map(len, texts)), sum(len(gzip.compress(text, 9)) for text in texts), len(files)
         yield f"{address} in {language}: the sentences", [name for name in files if "words-" in name], [
             f"office/words-{language}.js", f"shared/words-{language}.js"]
-        yield f"{address} in {language}: bytes, bytes with gzip, requests: {sizes}", [one <= most for one, most in zip(sizes, BUDGET)], [True] * 3
+        yield f"{address} in {language}: bytes, bytes with gzip, requests: {sizes}", [
+            one <= most for one, most in zip(sizes, BUDGET)], [True] * 3
     office.speak("en")
 
 

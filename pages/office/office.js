@@ -85,7 +85,8 @@ export const confirmed = (question, action, other = say.keepIt) => new Promise((
 
 /** A field for a local time. In the hour that autumn repeats it asks which of the two is meant; in the hour that spring leaves out it says
  *  so, and has no minute.
- * @type {(id: string, label: string, start: number | null) => { node: HTMLElement, input: HTMLInputElement, minute: () => number | null }} */
+ * @type {(id: string, label: string, start: number | null) =>
+ *  { node: HTMLElement, input: HTMLInputElement, minute: () => number | null }} */
 export function momentField(id, label, start) {
   const value = start === null ? "" : localText(start).replace(" ", "T");
   const input = h("input", { type: "datetime-local", id, value, required: true, "aria-describedby": `${id}-which` });

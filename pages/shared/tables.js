@@ -1,5 +1,5 @@
-// What the replies in CSV say (docs/FORMATS.md): a row for each driver, or for each breach. A text of another form is a problem. Below them:
-// what is left, by a forecast.
+// What the replies in CSV say (docs/FORMATS.md): a row for each driver, or for each breach. A text of another form is a problem. Then: what
+// is left, by a forecast.
 import { Problem, h, svg } from "./page.js";
 import { hm, length, localMoment, localTime, say, undivided } from "./say.js";
 import { DAY, minuteOf, weekOf } from "./time.js";

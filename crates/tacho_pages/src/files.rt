@@ -2926,7 +2926,8 @@ export const confirmed = (question, action, other = say.keepIt) => new Promise((
 
 /** A field for a local time. In the hour that autumn repeats it asks which of the two is meant; in the hour that spring leaves out it says
  *  so, and has no minute.
- * @type {(id: string, label: string, start: number | null) => { node: HTMLElement, input: HTMLInputElement, minute: () => number | null }} */
+ * @type {(id: string, label: string, start: number | null) =>
+ *  { node: HTMLElement, input: HTMLInputElement, minute: () => number | null }} */
 export function momentField(id, label, start) {
   const value = start === null ? \"\" : localText(start).replace(\" \", \"T\");
   const input = h(\"input\", { type: \"datetime-local\", id, value, required: true, \"aria-describedby\": `${id}-which` });
@@ -6883,8 +6884,8 @@ export function debtsPart(stretches) {
 
 /// The text at `/shared/tables.js`.
 fn shared_tables_js() -> &'static str {
-    "// What the replies in CSV say (docs/FORMATS.md): a row for each driver, or for each breach. A text of another form is a problem. Below them:
-// what is left, by a forecast.
+    "// What the replies in CSV say (docs/FORMATS.md): a row for each driver, or for each breach. A text of another form is a problem. Then: what
+// is left, by a forecast.
 import { Problem, h, svg } from \"./page.js\";
 import { hm, length, localMoment, localTime, say, undivided } from \"./say.js\";
 import { DAY, minuteOf, weekOf } from \"./time.js\";
