@@ -207,7 +207,7 @@ impl Place for Files<'_> {
         self.0.note(rt);
     }
 
-    fn is_unchanged(&self, rt: &HostRuntime) -> bool {
+    fn is_unchanged(&mut self, rt: &HostRuntime) -> bool {
         self.0.are_unchanged(rt)
     }
 }

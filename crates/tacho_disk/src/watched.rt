@@ -4,7 +4,7 @@ ghost use Rattle.std.specs.Prelude.{◌≡◌, ◌↔◌, true};
 
 use std::alloc::AllocError;
 use std::fs;
-use std::io::{self, ErrorKind, Read};
+use std::io::{self, ErrorKind, Read, Seek, SeekFrom};
 use std::os::unix::fs::MetadataExt;
 
 /// How many bytes of a log are noted: its head, which is a new one each time that the log begins anew.
@@ -22,11 +22,11 @@ struct Note {
     head: [u8; HEAD],
 }
 
-/// What is noted of an archive: its file, and its log if it has one.
+/// What is noted of an archive: its file, and its log, which is there as long as the archive is open.
 #[derive(Clone, Copy)]
 struct Notes {
     file: Note,
-    log: Option<Note>,
+    log: Note,
 }
 
 /// True if two notes are the same.
@@ -41,16 +41,11 @@ fn is_same(before: &Note, now: &Note) -> bool
         && before.head == now.head
 }
 
-/// True if two notes of an archive are the same: also if it had no log, and has none now.
+/// True if two notes of an archive are the same.
 fn are_same(before: &Notes, now: &Notes) -> bool
     ensures { (result ≡ true) ↔ (before.now ≡ now.now) }
 {
-    let is_log_same = match (&before.log, &now.log) {
-        (Some(before), Some(now)) => is_same(before, now),
-        (None, None) => true,
-        _ => false,
-    };
-    is_log_same && is_same(&before.file, &now.file)
+    is_same(&before.file, &now.file) && is_same(&before.log, &now.log)
 }
 
 /// Notes a file. A link isn't followed, and only a regular file can be noted.
@@ -70,33 +65,22 @@ fn note_of(rt: &HostRuntime, path: &str) -> io::Result<Note> {
 }
 
 /// The first bytes of a log of this length in bytes, or zeros if it is shorter.
-fn head_of(rt: &HostRuntime, path: &str, length: u64) -> io::Result<[u8; HEAD]> {
+fn head_of(log: &mut fs::File, length: u64) -> io::Result<[u8; HEAD]> {
     let mut head = [0; HEAD];
     if length >= 32 {
-        fs::File::open(rt, path)?.read_exact(&mut head)?;
+        log.seek(SeekFrom::Start(0))?;
+        log.read_exact(&mut head)?;
     }
     Ok(head)
 }
 
-/// Notes a log. Nothing if there is none.
-fn note_of_log(rt: &HostRuntime, path: &str) -> io::Result<Option<Note>> {
-    match note_of(rt, path) {
-        Ok(note) => {
-            let head = head_of(rt, path, note.length)?;
-            Ok(Some(Note { head, ..note }))
-        }
-        Err(error) => match error.kind() {
-            ErrorKind::NotFound => Ok(None),
-            _ => Err(error),
-        },
-    }
-}
-
-/// The files of an open archive, and what was last noted of them.
+/// The files of an open archive, and what was last noted of them. The log stays open here too, so that it can be read when the program may open
+/// no more files. If its path names another file, the note has another number.
 #[derive(Drop)]
 pub struct Watched<'a> {
     path: &'a str,
     log_path: String,
+    log: Option<fs::File>,
     notes: Option<Notes>,
 }
 
@@ -104,9 +88,11 @@ impl<'a> Watched<'a> {
     /// Notes the files of the archive that has just been opened at a path, whose links are resolved.
     pub fn new(rt: &HostRuntime, path: &'a str) -> Result<Watched<'a>, AllocError> {
         let log_path = format!(in rt.alloc(); "{path}-wal")?;
+        let log = fs::File::open(rt, &log_path).ok();
         let mut watched = Watched {
             path,
             log_path,
+            log,
             notes: None,
         };
         watched.note(rt);
@@ -114,9 +100,14 @@ impl<'a> Watched<'a> {
     }
 
     /// What can be noted of the files now.
-    fn notes_now(&self, rt: &HostRuntime) -> io::Result<Notes> {
+    fn notes_now(&mut self, rt: &HostRuntime) -> io::Result<Notes> {
         let file = note_of(rt, self.path)?;
-        let log = note_of_log(rt, &self.log_path)?;
+        let log = note_of(rt, &self.log_path)?;
+        let Some(open) = &mut self.log else {
+            return Err(io::Error::from(ErrorKind::NotFound));
+        };
+        let head = head_of(open, log.length)?;
+        let log = Note { head, ..log };
         Ok(Notes { file, log })
     }
 
@@ -126,9 +117,9 @@ impl<'a> Watched<'a> {
     }
 
     /// True if nobody has changed, replaced or moved the files since they were noted. False also if they can't be noted now, or couldn't then.
-    pub fn are_unchanged(&self, rt: &HostRuntime) -> bool {
-        match (&self.notes, self.notes_now(rt)) {
-            (Some(before), Ok(now)) => are_same(before, &now),
+    pub fn are_unchanged(&mut self, rt: &HostRuntime) -> bool {
+        match (self.notes, self.notes_now(rt)) {
+            (Some(before), Ok(now)) => are_same(&before, &now),
             _ => false,
         }
     }

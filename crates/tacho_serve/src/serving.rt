@@ -43,7 +43,7 @@ pub trait Place {
     fn note(&mut self, rt: &HostRuntime);
 
     /// True if nobody has changed, replaced or moved them since they were noted. Otherwise what is written to them now may be lost.
-    fn is_unchanged(&self, rt: &HostRuntime) -> bool;
+    fn is_unchanged(&mut self, rt: &HostRuntime) -> bool;
 }
 
 /// Listens on a port of 127.0.0.1.
