@@ -31,7 +31,7 @@ DRIVERS = [
     Driver(7, "Gábor Tóth", 300, 495, 0.3, [DAILY_DRIVING, DAILY_REST], (26, 2), [], False, True, 30),
     Driver(8, "Hanna Virtanen", 345, 480, 0.2, [BREAK], (18, 3), [], False, True, 33),
     Driver(9, "Ivo Marek", 240, 480, 0.3, [TWO_WEEKS], (24, 2), [], False, True, 0),
-    Driver(10, "Jonas Öberg", 1080, 490, 0, [DAILY_DRIVING], (28, 2), [(1, 4)], False, True, 0),
+    Driver(10, "Jonas Öberg", 1080, 490, 0, [DAILY_DRIVING], (28, 2), [(2, 4)], False, True, 0),
     Driver(11, "Katrin Wolff", 375, 450, 0.1, [BREAK, DAILY_REST], (11, 1), [], True, True, 0),
     Driver(12, "Luc Moreau", 330, 480, 0, [], (0, 0), [], False, False, 0),
 ]
