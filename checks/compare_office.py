@@ -363,8 +363,6 @@ NOT_SHAPED = "dates are written as 2024-03-04, months as 2024-03, times as 09:00
 OUT_OF_RANGE = next(iter(advice.sentences()["Z3"]))
 TAKEN = "it is there already, or a file with this name and -wal, .part or .part-wal after it; nothing was changed"
 IN_USE = "probably another program has it open (is the service running? then ask it by a request); or it is damaged, or its disk is full"
-OF_ANOTHER = "it or its log belongs to another user; run the command as that user, as root by runuser -u tacho -- tacho"
-NO_PERMISSION = "you have no permission to read and write it"
 NOT_MADE = "it cannot be made: its folder does not exist or may not be written, or its disk is full"
 DATES = {
     "Z1 not of the shape": (["2024-3-5", "2024-03", "2024-03-05 00:00", "", "5.3.2024", "2024-03-05 ", "x"], NOT_SHAPED),
@@ -519,6 +517,8 @@ def of_carry_rights(program: str) -> counting.Comparisons:
             yield f"carry with the mask {mask:o}: the mode", oct(os.stat(desk.beside(new)).st_mode), oct(0o100600)
         for name in [desk.path, desk.path + "-wal"]:
             os.chmod(name, 0o666)
+            if someone:
+                shutil.chown(name, someone["user"], someone["group"])
         os.chmod(folder, 0o555)
         new = desk.beside(NEW)
         not_made = fault_of("S12 store failed", 3, new, NOT_MADE)
@@ -526,7 +526,7 @@ def of_carry_rights(program: str) -> counting.Comparisons:
         os.chmod(folder, 0o777)
         os.chmod(desk.path, 0)
         yield from of_refused_carry(desk, "of an archive without rights", new, "2024-03-05", fault_of(
-            "S12 store failed", 3, desk.path, OF_ANOTHER if someone else NO_PERMISSION), **someone)
+            "S12 store failed", 3, desk.path, "you have no permission to read and write it"), **someone)
         os.chmod(folder, 0o755)
         os.chmod(desk.path, 0o600)
         yield desk.tables("an archive without rights")
@@ -748,7 +748,8 @@ def of_servers(program):
 def of_sentences():
     """The comparison of the sentences for a person in the code with those of docs/FORMATS.md."""
     sources = [os.path.join(TOP, "crates", *path) for path in (("tacho", "src", "advice.rt"), ("tacho_disk", "src", "cause.rt"))]
-    found = {text for path in sources for text in re.findall(r'"([^"\\{}]* [^"\\{}]*)"', read(path).decode())}
+    texts = {text for path in sources for text in re.findall(r'"((?:[^"\\]|\\.)*)"', read(path).decode())}
+    found = {text for text in texts if " " in text and not re.search(r"[\\{}]", text)}
     yield "the sentences in docs/FORMATS.md", sorted(set().union(*advice.sentences().values())), sorted(found)
 
 
