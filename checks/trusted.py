@@ -56,7 +56,7 @@ DATABASE = Order(
     ("tacho_time", "tacho_card", "tacho_line", "tacho_law", "tacho_rules", "tacho_stretches"),
     (
         ("the tables, and their rows as values of types", "tacho_tables: Schema Rows Tables Making"),
-        ("an archive's state, and which state the tables represent", "tacho_state: State; tacho_reading: Standing"),
+        ("an archive's state, and which state the tables represent", "tacho_state: State Numbers; tacho_reading: Standing"),
         ("what each command and each reading answers, and the state after it",
          "tacho_state: Steps Content Batch Registration Limits Least Disjoint Distinct Reported Summaries Files"),
         ("what a call does to an archive, and what a crash within it or after several leaves",

@@ -9,7 +9,8 @@ use Rattle.tacho_time.specs.Spans.{IsCanonical}
 use Rattle.tacho_card.specs.declared.fault.CardFault.{CardFault}
 use Rattle.tacho_card.specs.declared.file.Part.{Part}
 use Rattle.tacho_card.specs.CardFile.{FileBlock, ReadsChosen, card_file, chosen_activity}
-use Rattle.tacho_state.specs.Content.{AreRead, FileTells, ReadTells, part_number}
+use Rattle.tacho_state.specs.Content.{AreRead, FileTells, ReadTells}
+use Rattle.tacho_state.specs.Numbers.{part_number}
 use Rattle.tacho_state.specs.Files.{ListedFile, listed_file, listed_from, past_of, told_file}
 use Rattle.tacho_state.specs.State.{Download, Driver, State, download_from, driver_of, put, with_download}
 use Rattle.tacho_state.specs.Steps.{Content, file_of, file_reading, reading_of}

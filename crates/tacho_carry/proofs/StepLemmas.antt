@@ -5,7 +5,8 @@ use Rattle.std.proofs.lemmas.Bool.Decides.{nat_tests}
 use Rattle.tacho_time.specs.declared.span.Span.{Span}
 use Rattle.tacho_card.specs.declared.fault.CardFault.{CardFault}
 use Rattle.tacho_card.specs.declared.file.Part.{Part}
-use Rattle.tacho_state.specs.Content.{FileTells, part_number}
+use Rattle.tacho_state.specs.Content.{FileTells}
+use Rattle.tacho_state.specs.Numbers.{part_number}
 use Rattle.tacho_state.specs.Least.{is_within, least_conflict}
 use Rattle.tacho_state.specs.State.{Driver, Entry, State, driver_of, driver_with_key, entered_spans, entry_from, given_spans}
 use Rattle.tacho_state.specs.State.{held_spans, holding, marked_from, put, with_base, with_key, with_marked}

@@ -10,7 +10,8 @@ use Rattle.tacho_card.specs.declared.fault.CardFault.{CardFault}
 use Rattle.tacho_card.specs.declared.file.Part.{Part}
 use Rattle.tacho_line.proofs.MergeLemmas.{front_gives}
 use Rattle.tacho_state.specs.declared.imported.Imported.TheVariants.{Added}
-use Rattle.tacho_state.specs.Content.{FileTells, part_number}
+use Rattle.tacho_state.specs.Content.{FileTells}
+use Rattle.tacho_state.specs.Numbers.{part_number}
 use Rattle.tacho_state.specs.Disjoint.{AllWithin}
 use Rattle.tacho_state.specs.Least.{least_conflict}
 use Rattle.tacho_state.specs.State.{Download, Driver, Entry, Held, State, entered_spans, given_spans, with_batch, with_download}

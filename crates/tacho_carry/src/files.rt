@@ -1,6 +1,7 @@
 ghost use Rattle.std.specs.Prelude.{◌≡◌, OnOk, Some, map};
 ghost use Rattle.tacho_state.specs.Acts.{OnlyRead};
-ghost use Rattle.tacho_state.specs.Content.{AreRead, FileTells, part_number};
+ghost use Rattle.tacho_state.specs.Content.{AreRead, FileTells};
+ghost use Rattle.tacho_state.specs.Numbers.{part_number};
 ghost use Rattle.tacho_state.specs.Files.{listed_from, told_file};
 ghost use Rattle.tacho_state.specs.State.{Driver, State, driver_of, put, with_download};
 ghost use Rattle.tacho_state.specs.Steps.{Content};

@@ -1,5 +1,5 @@
 -- What typed rows have to be so that they fit, and that they are so if they fit.
-use Rattle.std.proofs.Common.{◌≡◌, ◌∙◌, ℕ, ◌+◌, ◌<◌, Bool, true, false, List, [], ◌∷◌, ◌++◌, map, length, Less, Ok, refl, sym, ap, ap₂, subst, arith}
+use Rattle.std.proofs.Common.{◌≡◌, ◌∙◌, ℕ, ◌+◌, ◌<◌, List, [], ◌∷◌, ◌++◌, map, length, Less, Ok, refl, sym, ap, ap₂, subst, arith}
 use Rattle.std.specs.List.{AllByRecursion}
 use Rattle.std.specs.List.Sorted.{IsPermutation}
 use Rattle.std.specs.Ordering.{nat_cmp}
@@ -9,15 +9,15 @@ use Rattle.sqlite.specs.Order.{Row}
 use Rattle.sqlite_trees.specs.Tree.{IsAscending}
 use Rattle.tacho_time.specs.declared.span.Span.{Span}
 use Rattle.tacho_time.specs.declared.span.Mark.{Mark}
-use Rattle.tacho_time.specs.declared.span.Activity.{Activity}
-use Rattle.tacho_time.specs.declared.span.Activity.TheVariants.{Rest, Available, Work, Drive}
 use Rattle.tacho_time.proofs.CanonicalLemmas.{moved_same}
 use Rattle.tacho_state.specs.State.{Download, given_spans}
 use Rattle.tacho_state.specs.Content.{AreRead, FileTells}
 use Rattle.tacho_state.specs.Disjoint.{Keeps}
 use Rattle.tacho_state.proofs.OrderLemmas.{disjoint_moved}
+use Rattle.tacho_reading.proofs.RowLemmas.{span_back}
 use Rattle.tacho_tables.specs.Rows.{DownloadRow, span_columns, download_columns}
-use Rattle.tacho_reading.specs.Standing.{mark_number, numbered_mark, rows_of_downloads, row_span, span_row}
+use Rattle.tacho_reading.specs.Standing.{rows_of_downloads, row_span, span_row}
+use Rattle.tacho_state.specs.Numbers.{mark_number}
 use Rattle.tacho_check.specs.declared.files.FileRow.{FileRow}
 use Rattle.tacho_check.specs.declared.wide.Wide.{Wide}
 use Rattle.tacho_check.specs.Wide.{wide_spans}
@@ -160,20 +160,6 @@ one_span n a b e =
     ∙ ap (λ (x : ℕ). record { driver = n; start = b.start; past = x; mark = mark_number a.mark }) past
     ∙ ap (λ (x : ℕ). record { driver = n; start = b.start; past = b.past; mark = x }) mark in
     sym (span_back n a) ∙ ap row_span rows ∙ span_back n b
-  where
-    mark_back : (a : Activity) (c : Bool) → numbered_mark
-        (mark_number (record { activity = a; crew = c })) ≡ record { activity = a; crew = c }
-    mark_back Rest true = refl
-    mark_back Rest false = refl
-    mark_back Available true = refl
-    mark_back Available false = refl
-    mark_back Work true = refl
-    mark_back Work false = refl
-    mark_back Drive true = refl
-    mark_back Drive false = refl
-
-    span_back : (n : ℕ) (s : Span) → row_span (span_row n s) ≡ s
-    span_back n s = ap (λ (k : Mark). record { start = s.start; past = s.past; mark = k }) (mark_back s.mark.activity s.mark.crew)
 
 -- spans in another order keep the same
 pub moved_keeps : (xs ys : List Span) (P : ℕ → Mark → Type 0) → IsPermutation xs ys → Keeps xs P → Keeps ys P

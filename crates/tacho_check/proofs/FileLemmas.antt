@@ -4,11 +4,12 @@ use Rattle.tacho_time.specs.declared.span.Span.{Span}
 use Rattle.tacho_card.specs.declared.fault.CardFault.{CardFault}
 use Rattle.tacho_card.specs.declared.file.Part.{Part}
 use Rattle.tacho_card.specs.declared.file.Part.TheVariants.{Both, First, Second}
-use Rattle.tacho_card.specs.declared.fault.CardFault.TheVariants.{Memory}
-use Rattle.tacho_card.specs.CardFile.{FileBlock, card_file, ReadsFile}
+use Rattle.tacho_state.specs.declared.fault.StoreFault.{StoreFault}
+use Rattle.tacho_state.specs.declared.fault.StoreFault.TheVariants.{Card, Memory}
 use Rattle.tacho_time.specs.OrMemory.{OrMemory}
 use Rattle.tacho_state.specs.Steps.{Content}
-use Rattle.tacho_state.specs.Content.{FileTells, ReadTells, part_number}
+use Rattle.tacho_state.specs.Content.{FileTells}
+use Rattle.tacho_state.specs.Numbers.{part_number}
 use Rattle.tacho_state.proofs.ContentLemmas.{one_content}
 use Rattle.tacho_check.specs.declared.files.FileRow.{FileRow}
 use Rattle.std.specs.Prelude.{Vec}
@@ -20,16 +21,13 @@ pub faulty_tells : (part : Part) (file : List ℕ) (fault : CardFault) → FileT
     → ¬ (Tells part file spans)
 faulty_tells part file fault h spans k = let e = one_content part file (Err fault) (Ok (record { holder = k.0; spans = spans })) h k.1 in cc
 
--- a file whose part can't be read gives nothing
-pub refused_is : {E : Type 0} (part : Part) (file : List ℕ) (blocks : List FileBlock) (fault : CardFault)
-    (r : Result (Option (Vec Span Global)) E)
-    → card_file file ≡ Ok blocks → OrMemory Memory fault (ReadsFile part blocks (Err fault))
+-- a file with a fault gives nothing, unless memory ran out
+pub refused_is : {E : Type 0} (part : Part) (file : List ℕ) (fault : StoreFault) (r : Result (Option (Vec Span Global)) E)
+    → OrMemory Memory fault ((f : CardFault) × (fault ≡ Card f) × FileTells part file (Err f))
     → IfOk r (λ found. (found ≡ None) × (fault ≢ Memory)) → IfOk r (IsContentOf part file)
-refused_is part file blocks fault (Err e) read told h = tt
-refused_is part file blocks fault (Ok found) read (inl memory) h = absurd (h.1 memory)
-refused_is part file blocks fault (Ok found) read (inr told) h =
-    subst (IsContentOf part file) (sym h.0)
-    (faulty_tells part file fault (subst (λ (r : Result (List FileBlock) CardFault). ReadTells part r (Err fault)) (sym read) told))
+refused_is part file fault (Err e) told h = tt
+refused_is part file fault (Ok found) (inl memory) h = absurd (h.1 memory)
+refused_is part file fault (Ok found) (inr told) h = subst (IsContentOf part file) (sym h.0) (faulty_tells part file told.0 told.2)
 
 -- a file gives one list of spans
 pub one_told : (part : Part) (file : List ℕ) (a b : List Span) → Tells part file a → Tells part file b → a ≡ b

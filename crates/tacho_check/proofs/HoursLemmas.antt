@@ -10,10 +10,11 @@ use Rattle.sqlite_trees.specs.Tree.{IsAscending}
 use Rattle.sqlite_trees.proofs.ListLemmas.{map-map}
 use Rattle.tacho_time.specs.declared.span.Span.{Span}
 use Rattle.tacho_time.specs.declared.span.Activity.{Activity}
-use Rattle.tacho_time.specs.declared.span.Activity.TheVariants.{Rest, Available, Work, Drive}
 use Rattle.tacho_state.specs.State.{Download, Entry, given_spans, entered_spans, entry_span, AreFull}
 use Rattle.tacho_tables.specs.Rows.{EntryRow, entry_columns}
-use Rattle.tacho_reading.specs.Standing.{activity_number, numbered_activity, entry_row, rows_of_entries}
+use Rattle.tacho_reading.specs.Standing.{entry_row, rows_of_entries}
+use Rattle.tacho_state.specs.Numbers.{activity_number, numbered_activity}
+use Rattle.tacho_state.proofs.NumberLemmas.{activity_back, activity_low, activity_there}
 use Rattle.tacho_check.specs.declared.hours.HoursRow.{HoursRow}
 use Rattle.tacho_check.specs.Hours.{AreInOrder, hours_span, kept_hours, entered_hours}
 use Rattle.tacho_check.specs.Typed.{NeverFall, hours_of, AreHours}
@@ -121,30 +122,10 @@ one_entry a b e =
 
 -- ---- numbers
 
--- the number of an activity with a number
-activity_there : (n : ℕ) → n < 4 → activity_number (numbered_activity n) ≡ n
-activity_there zero h = refl
-activity_there (suc zero) h = refl
-activity_there (suc (suc zero)) h = refl
-activity_there (suc (suc (suc zero))) h = refl
-activity_there (suc (suc (suc (suc n)))) h = absurd (omega (arith, h))
-
 flag_there : (n : ℕ) → n < 2 → cond (not (n == 0)) 1 0 ≡ n
 flag_there zero h = refl
 flag_there (suc zero) h = refl
 flag_there (suc (suc n)) h = absurd (omega (arith, h))
-
-activity_back : (a : Activity) → numbered_activity (activity_number a) ≡ a
-activity_back Rest = refl
-activity_back Available = refl
-activity_back Work = refl
-activity_back Drive = refl
-
-activity_low : (a : Activity) → activity_number a < 4
-activity_low Rest = omega arith
-activity_low Available = omega arith
-activity_low Work = omega arith
-activity_low Drive = omega arith
 
 flag_low : (b : Bool) → cond b 1 0 < 2
 flag_low true = omega arith

@@ -11,7 +11,8 @@ use Rattle.tacho_state.specs.State.{Download, Entry, IsDownloaded, Held}
 use Rattle.tacho_state.specs.Disjoint.{Keeps}
 use Rattle.tacho_state.proofs.EqualLemmas.{eq_not, eq_self}
 use Rattle.tacho_tables.specs.Rows.{SpanRow, DownloadRow, EntryRow}
-use Rattle.tacho_reading.specs.Standing.{IsMark, RowsRepresentEach, TablesRepresent, driver_columns, rows_of_downloads, rows_of_entries, row_span, span_row, spans_of}
+use Rattle.tacho_reading.specs.Standing.{RowsRepresentEach, TablesRepresent, driver_columns, rows_of_downloads, rows_of_entries, row_span, span_row, spans_of}
+use Rattle.tacho_state.specs.Numbers.{IsMark}
 use Rattle.tacho_reading.proofs.RowLemmas.{added_own, added_marks}
 use Rattle.tacho_check.specs.Member.{Member, IsWhole, downloads_in, entries_in, state_of, tables_of}
 

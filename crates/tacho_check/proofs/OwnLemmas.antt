@@ -1,5 +1,5 @@
 -- A driver's rows are sound up to a table exactly if there are none, or if they are those of a member.
-use Rattle.std.proofs.Common.{◌≡◌, ◌∙◌, ℕ, zero, suc, ℤ, pos, negsuc, ◌==◌, ◌≤◌, inl, inr, Bool, true, false, cond, List, [], ◌∷◌, map, filter, flat_map, Option, None, Some, refl, sym, ap, ap₂, subst, arith}
+use Rattle.std.proofs.Common.{◌≡◌, ◌∙◌, ℕ, ℤ, pos, negsuc, ◌==◌, ◌≤◌, inl, inr, Bool, true, false, cond, List, [], ◌∷◌, map, filter, flat_map, Option, None, Some, refl, sym, ap, ap₂, subst, arith}
 use Rattle.std.specs.List.{All}
 use Rattle.std.specs.List.Sorted.{IsPermutation}
 use Rattle.std.specs.Ordering.{int_eq}
@@ -13,10 +13,12 @@ use Rattle.sqlite_trees.proofs.ListLemmas.{filter-map, IsPermutation-same}
 use Rattle.tacho_state.specs.Distinct.{HasNot, AreDistinct}
 use Rattle.tacho_state.specs.State.{Driver, State, driver_of}
 use Rattle.tacho_state.proofs.EqualLemmas.{eq_false, eq_true}
+use Rattle.tacho_state.proofs.NumberLemmas.{mark_there}
 use Rattle.tacho_tables.specs.Schema.{Layout}
 use Rattle.tacho_tables.specs.Rows.{SpanRow, DownloadRow, EntryRow, DriverRow, span_columns, download_columns, entry_columns, driver_row}
 use Rattle.tacho_tables.specs.Tables.{Tables, has_number}
-use Rattle.tacho_reading.specs.Standing.{IsMark, mark_number, numbered_mark, row_span, span_row, spans_of, driver_columns, RowsRepresent, TablesRepresent}
+use Rattle.tacho_reading.specs.Standing.{row_span, span_row, spans_of, driver_columns, RowsRepresent, TablesRepresent}
+use Rattle.tacho_state.specs.Numbers.{IsMark}
 use Rattle.tacho_state.proofs.PutLemmas.{found_number}
 use Rattle.tacho_reading.proofs.StateLemmas.{found_of}
 use Rattle.tacho_reading.proofs.DriverRowLemmas.{no_number_row}
@@ -58,18 +60,6 @@ module _ {X : Type 0} (columns : X → Row) (key : X → ℕ) (first : (x : X) �
       (λ x. ap (is_number (negsuc n)) (first x) ∙ own_negative (key x) n) xs)
 
 -- ---- rows of spans
-
--- the number of a mark with a number
-mark_there : (n : ℕ) → IsMark n → mark_number (numbered_mark n) ≡ n
-mark_there zero h = refl
-mark_there (suc zero) h = refl
-mark_there (suc (suc zero)) h = refl
-mark_there (suc (suc (suc zero))) h = refl
-mark_there (suc (suc (suc (suc zero)))) h = refl
-mark_there (suc (suc (suc (suc (suc zero))))) h = refl
-mark_there (suc (suc (suc (suc (suc (suc zero)))))) h = refl
-mark_there (suc (suc (suc (suc (suc (suc (suc zero))))))) h = refl
-mark_there (suc (suc (suc (suc (suc (suc (suc (suc n)))))))) h = absurd (omega (arith, h))
 
 -- the row of the span of a row is that row
 row_there : (n : ℕ) (r : SpanRow) → r.driver ≡ n → IsMark r.mark → r ≡ span_row n (row_span r)

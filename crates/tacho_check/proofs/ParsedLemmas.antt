@@ -1,5 +1,5 @@
 -- Rows that readings show, as typed rows.
-use Rattle.std.proofs.Common.{◌≡◌, ◌≢◌, ◌∙◌, ℕ, ℤ, pos, ◌<◌, ◌≤◌, Bool, true, false, List, [], ◌∷◌, ◌++◌, length, map, Option, None, Some, refl, sym, ap, ap₂, subst, arith}
+use Rattle.std.proofs.Common.{◌≡◌, ◌≢◌, ◌∙◌, ℕ, ℤ, pos, ◌<◌, ◌≤◌, List, [], ◌∷◌, ◌++◌, length, map, Option, None, Some, refl, sym, ap, ap₂, subst, arith}
 use Rattle.std.specs.List.{AllByRecursion}
 use Rattle.std.specs.List.Sorted.{IsPermutation}
 use Rattle.std.proofs.lemmas.List.Sorted.{IsPermutation-sym, IsPermutation-trans, IsPermutation-map}
@@ -9,9 +9,8 @@ use Rattle.sqlite_value.specs.Order.{Row, column}
 use Rattle.sqlite_trees.proofs.ListLemmas.{pull_back, all-permutation}
 use Rattle.sqlite_rules.specs.Lists.{Has}
 use Rattle.sqlite_rules.proofs.ListLemmas.{all_has}
-use Rattle.tacho_time.specs.declared.span.Activity.{Activity}
-use Rattle.tacho_time.specs.declared.span.Activity.TheVariants.{Rest, Available, Work, Drive}
-use Rattle.tacho_reading.specs.Standing.{mark_number}
+use Rattle.tacho_state.specs.Numbers.{mark_number}
+use Rattle.tacho_state.proofs.NumberLemmas.{mark_low}
 use Rattle.tacho_check.specs.declared.parsing.Three.{Three}
 use Rattle.tacho_check.specs.declared.wide.Wide.{Wide}
 use Rattle.tacho_check.specs.Wide.{wide_span, wide_spans}
@@ -75,16 +74,6 @@ no_past a b c never s e = never s.past (let g = e in cc)
 
 pub no_number : (a b c : ℤ) → ((k : ℕ) → c ≢ pos k) → IsSpanOf (Int a ∷ Int b ∷ Int c ∷ []) None
 no_number a b c never s e = never (mark_number s.mark) (let g = e in cc)
-
-mark_low : (a : Activity) (crew : Bool) → mark_number (record { activity = a; crew = crew }) < 8
-mark_low Rest true = omega arith
-mark_low Rest false = omega arith
-mark_low Available true = omega arith
-mark_low Available false = omega arith
-mark_low Work true = omega arith
-mark_low Work false = omega arith
-mark_low Drive true = omega arith
-mark_low Drive false = omega arith
 
 pub no_mark : (a b c : ℤ) (k : ℕ) → c ≡ pos k → 8 ≤ k → IsSpanOf (Int a ∷ Int b ∷ Int c ∷ []) None
 no_mark a b c k is high s e =

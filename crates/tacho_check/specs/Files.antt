@@ -3,7 +3,8 @@ use Rattle.std.specs.Prelude.{◌≡◌, ℕ, ◌+◌, List, [], ◌∷◌, ◌+
 use Rattle.std.specs.declared.alloc.Global.{Global}
 use Rattle.tacho_time.specs.declared.span.Span.{Span}
 use Rattle.tacho_card.specs.declared.file.Part.{Part}
-use Rattle.tacho_state.specs.Content.{FileTells, part_number}
+use Rattle.tacho_state.specs.Content.{FileTells}
+use Rattle.tacho_state.specs.Numbers.{part_number}
 use Rattle.tacho_check.specs.declared.files.FileRow.{FileRow}
 use Rattle.tacho_check.specs.declared.wide.Wide.{Wide}
 use Rattle.tacho_check.specs.Wide.{wide_spans}

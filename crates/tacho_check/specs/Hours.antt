@@ -1,8 +1,7 @@
 -- Private to tacho_check: Stored entries, without their authors and notes.
 use Rattle.std.specs.Prelude.{◌≡◌, ℕ, ◌+◌, ◌<◌, ◌==◌, false, List, [], ◌∷◌, ◌++◌, if◌then◌else◌}
 use Rattle.tacho_time.specs.declared.span.Span.{Span}
-use Rattle.tacho_time.specs.declared.span.Activity.{Activity}
-use Rattle.tacho_time.specs.declared.span.Activity.TheVariants.{Rest, Available, Work, Drive}
+use Rattle.tacho_state.specs.Numbers.{numbered_activity}
 use Rattle.tacho_check.specs.declared.hours.HoursRow.{HoursRow}
 
 -- the rows are numbered from i on, none is empty, and each has the number of an activity and a 0 or a 1
@@ -10,13 +9,9 @@ abbrev pub AreInOrder : ℕ → List HoursRow → Type 0
 AreInOrder i [] = Unit {0}
 AreInOrder i (r ∷ rows) = (r.number ≡ i) × (r.start < r.past) × (r.mark < 4) × (r.withdrawn < 2) × AreInOrder (i + 1) rows
 
--- the activity with a number
-abbrev pub numbered_hours : ℕ → Activity
-numbered_hours n = if n == 0 then Rest else (if n == 1 then Available else (if n == 2 then Work else Drive))
-
 -- the span of a row: the driver is alone
 abbrev pub hours_span : HoursRow → Span
-hours_span r = record { start = r.start; past = r.past; mark = record { activity = numbered_hours r.mark; crew = false } }
+hours_span r = record { start = r.start; past = r.past; mark = record { activity = numbered_activity r.mark; crew = false } }
 
 -- what a row gives: nothing, if it is withdrawn
 abbrev pub kept_hours : HoursRow → List Span

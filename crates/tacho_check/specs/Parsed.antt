@@ -5,7 +5,7 @@ use Rattle.sqlite.specs.declared.types.Value.TheVariants.{Int, Blob}
 use Rattle.sqlite.specs.Order.{Row, column}
 use Rattle.sqlite_rules.specs.Lists.{Has}
 use Rattle.tacho_time.specs.declared.span.Span.{Span}
-use Rattle.tacho_reading.specs.Standing.{mark_number}
+use Rattle.tacho_state.specs.Numbers.{mark_number}
 use Rattle.tacho_check.specs.declared.files.FileRow.{FileRow}
 use Rattle.tacho_check.specs.declared.hours.HoursRow.{HoursRow}
 use Rattle.tacho_check.specs.declared.parsing.Three.{Three}

@@ -1,13 +1,13 @@
 //! A driver's stored card files, which are read again.
 
 ghost use Rattle.std.specs.Prelude.{◌≡◌, ◌≢◌, ◌↔◌, ◌++◌, None, IfOk, OnOk, IsTrue, IfSome, IsNone};
-ghost use Rattle.tacho_state.specs.Content.{part_number};
 ghost use Rattle.tacho_check.specs.Files.{IsContentOf, IsReadingOf, IsGivenBy, AreNumberedFrom};
 ghost use Rattle.tacho_check.specs.Wide.{wide_span, wide_spans};
 
 use crate::wide::Wide;
 use std::alloc::{AllocError, Global};
-use tacho_card::{CardFault, CardFile, Part, spans};
+use tacho_card::Part;
+use tacho_state::{StoreFault, content_of, part_of};
 use tacho_time::Span;
 
 /// A stored card file: its number among the driver's downloads, the number of the part that was read, and its bytes.
@@ -18,25 +18,12 @@ pub struct FileRow {
     pub file: Vec<u8>,
 }
 
-/// Returns the part with this number, if there is one: 0 both generations, 1 the first, 2 the second.
-fn part_of(number: u64) -> Option<Part>
-    ensures some { IfSome result (λ part. part_number part ≡ number) }
-    ensures none { IsNone result → (part : Part) → part_number part ≢ number }
-{
-    match number {
-        0 => Some(Part::Both),
-        1 => Some(Part::First),
-        2 => Some(Part::Second),
-        _ => None,
-    }
-}
-
 /// Returns no spans for a fault of a card file; out of memory stays.
-fn refused(fault: &CardFault) -> Result<Option<Vec<Span>>, AllocError>
-    ensures { IfOk result (λ found. (found ≡ None) × (fault.now ≢ CardFault.Memory)) }
+fn refused(fault: &StoreFault) -> Result<Option<Vec<Span>>, AllocError>
+    ensures { IfOk result (λ found. (found ≡ None) × (fault.now ≢ StoreFault.Memory)) }
 {
     match fault {
-        CardFault::Memory => Err(AllocError),
+        StoreFault::Memory => Err(AllocError),
         _ => Ok(None),
     }
 }
@@ -46,12 +33,8 @@ fn refused(fault: &CardFault) -> Result<Option<Vec<Span>>, AllocError>
 fn content(alloc: Global, part: Part, file: &[u8]) -> Result<Option<Vec<Span>>, AllocError>
     ensures { IfOk result (IsContentOf part file.now) }
 {
-    let Ok(card) = CardFile::read(file) else {
-        return Ok(None);
-    };
-    let _holder = card.holder();
-    match spans(alloc, &card, part) {
-        Ok(found) => Ok(Some(found)),
+    match content_of(alloc, part, file) {
+        Ok(content) => Ok(Some(content.spans)),
         Err(fault) => refused(&fault),
     }
 }

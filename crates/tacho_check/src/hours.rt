@@ -1,12 +1,13 @@
 //! A driver's stored entries: whether they are entries of a state, and what they give.
 
 ghost use Rattle.std.specs.Prelude.{◌≡◌, ◌↔◌, ◌++◌, IfOk, OnOk, IsTrue};
-ghost use Rattle.tacho_check.specs.Hours.{AreInOrder, hours_span, kept_hours, entered_hours, numbered_hours};
+ghost use Rattle.tacho_check.specs.Hours.{AreInOrder, hours_span, kept_hours, entered_hours};
 ghost use Rattle.tacho_check.specs.Wide.{wide_span, wide_spans};
 
 use crate::wide::Wide;
 use std::alloc::{AllocError, Global};
-use tacho_time::{Activity, Mark};
+use tacho_state::activity_of;
+use tacho_time::Mark;
 
 /// A stored entry, without its author and its note: its number among the driver's entries, its minutes, the number of its activity, and 1
 /// if it is withdrawn (else 0).
@@ -31,18 +32,6 @@ pub fn are_in_order(rows: &[HoursRow]) -> bool
         number = number.saturating_add(1);
     }
     true
-}
-
-/// Returns the activity with this number; every number above 2 is drive.
-fn activity_of(number: u64) -> Activity
-    ensures { result ≡ numbered_hours number }
-{
-    match number {
-        0 => Activity::Rest,
-        1 => Activity::Available,
-        2 => Activity::Work,
-        _ => Activity::Drive,
-    }
 }
 
 /// Returns the span of a row: the driver is alone.

@@ -1,15 +1,14 @@
 //! Typed rows from the rows that readings show.
 
-ghost use Rattle.std.specs.Prelude.{◌≡◌, ℕ, ℤ, pos, ◌∷◌, [], ◌≤◌, IfOk, MatchOption};
+ghost use Rattle.std.specs.Prelude.{◌≡◌, ℕ, ℤ, pos, ◌∷◌, [], IfOk};
 ghost use Rattle.sqlite.specs.declared.types.Value.TheVariants.{Int};
-ghost use Rattle.tacho_reading.specs.Standing.{mark_number};
 ghost use Rattle.tacho_check.specs.Parsed.{IsNatural, AreNumbersOf, IsSpanOf, AreSpansOf};
 
 use crate::wide::Wide;
 use sqlite::Row;
 use std::alloc::Global;
+use tacho_state::mark_of;
 use tacho_tables::TableFault;
-use tacho_time::{Activity, Mark};
 
 /// Returns a number that isn't negative.
 pub(crate) fn natural(number: i64) -> Option<u64>
@@ -20,24 +19,6 @@ pub(crate) fn natural(number: i64) -> Option<u64>
     } else {
         Some(number.unsigned_abs())
     }
-}
-
-/// Returns the mark with this number, if there is one.
-fn mark_of(number: u64) -> Option<Mark>
-    ensures { MatchOption result (8 ≤ number) (λ mark. mark_number mark ≡ number) }
-{
-    let (activity, crew) = match number {
-        0 => (Activity::Rest, false),
-        1 => (Activity::Available, false),
-        2 => (Activity::Work, false),
-        3 => (Activity::Drive, false),
-        4 => (Activity::Rest, true),
-        5 => (Activity::Available, true),
-        6 => (Activity::Work, true),
-        7 => (Activity::Drive, true),
-        _ => return None,
-    };
-    Some(Mark { activity, crew })
 }
 
 /// Three numbers of a row.

@@ -3,13 +3,13 @@ use Rattle.std.proofs.Common.{◌≡◌, ◌≢◌, ◌⊎◌, ◌∙◌, ◌*�
 use Rattle.std.proofs.Common.{inl, inr, false, refl, sym, ap, subst, arith}
 use Rattle.tacho_card.specs.declared.fault.CardFault.{CardFault}
 use Rattle.tacho_card.specs.declared.file.Part.{Part}
-use Rattle.tacho_state.specs.Content.{FileTells, part_number}
+use Rattle.tacho_state.specs.Content.{FileTells}
+use Rattle.tacho_state.specs.Numbers.{part_number}
 use Rattle.tacho_state.specs.State.{Driver, State, driver_of, held_spans}
 use Rattle.tacho_state.specs.Steps.{Content, Own, own_turn, import_by_driver, import_step}
 use Rattle.tacho_state.specs.declared.caller.Caller.TheVariants as caller
 use Rattle.tacho_handover.specs.Handover.{IsHandover}
 use Rattle.tacho_desk.specs.Doing.{IsFileOf, IsTextOf, in_words}
-use Rattle.tacho_desk.specs.Range.{Days}
 use Rattle.tacho_desk.specs.Version.{program_line}
 use Rattle.tacho_line.specs.declared.horizon.Horizon.{Horizon}
 use Rattle.tacho_law.specs.declared.breach.Breach.{Breach}

@@ -1,12 +1,12 @@
 -- The card files that cover a period, one more at a time.
-use Rattle.std.proofs.Common.{◌≡◌, ◌⊎◌, ◌↔◌, ◌∙◌, ℕ, ◌+◌, List, [], ◌∷◌, ◌++◌, Ok, ap, arith, inl, inr, refl, subst, sym}
+use Rattle.std.proofs.Common.{◌≡◌, ◌⊎◌, ◌↔◌, ◌∙◌, ℕ, ◌+◌, List, [], ◌∷◌, ◌++◌, Ok, ap, inl, inr, refl, subst, sym}
 use Rattle.tacho_time.specs.declared.span.Span.{Span}
 use Rattle.tacho_time.specs.declared.span.Mark.{Mark}
 use Rattle.tacho_time.specs.Spans.{Gives, SamePairs}
-use Rattle.tacho_card.specs.declared.file.Part.{Part}
 use Rattle.tacho_card.specs.declared.file.Part.TheVariants as part
 use Rattle.tacho_line.specs.Line.{Holds, IsWithin}
-use Rattle.tacho_state.specs.Content.{FileTells, HasContent, part_number}
+use Rattle.tacho_state.specs.Content.{FileTells}
+use Rattle.tacho_state.specs.Numbers.{part_number}
 use Rattle.tacho_state.specs.Files.{ListedFile, listed_file, told_file}
 use Rattle.tacho_state.specs.State.{Download}
 use Rattle.tacho_state.specs.Steps.{Content}

@@ -10,7 +10,6 @@ use Rattle.sqlite.specs.Tree.{Trees}
 use Rattle.sqlite_keyed.proofs.SortLemmas.{sorted_unique}
 use Rattle.sqlite_trees.specs.Tree.{IsAscending}
 use Rattle.tacho_time.specs.declared.span.Activity.{Activity}
-use Rattle.tacho_time.specs.declared.span.Activity.TheVariants.{Rest, Available, Work, Drive}
 use Rattle.tacho_state.specs.declared.entry.Entry.{Entry as Listed}
 use Rattle.tacho_state.specs.declared.fault.StoreFault.{StoreFault}
 use Rattle.tacho_state.specs.declared.fault.StoreFault.TheVariants.{Memory, Store}
@@ -19,7 +18,8 @@ use Rattle.tacho_state.specs.State.{Driver, Entry, State, driver_of}
 use Rattle.tacho_state.specs.Steps.{numbered_from, entries_reading}
 use Rattle.tacho_tables.specs.Rows.{EntryRow}
 use Rattle.tacho_tables.specs.Tables.{Tables, HasTables, ListedEntry, is_entry_of, listed_entry}
-use Rattle.tacho_reading.specs.Standing.{Represents, activity_number, numbered_activity, entry_row, rows_of_entries, listed_as}
+use Rattle.tacho_reading.specs.Standing.{Represents, entry_row, rows_of_entries, listed_as}
+use Rattle.tacho_state.proofs.NumberLemmas.{activity_back}
 use Rattle.tacho_reading.proofs.EntryLemmas.{entry_all}
 use Rattle.tacho_reading.proofs.TimelineLemmas.{gave_up}
 
@@ -52,13 +52,6 @@ rows_rise n i (e ∷ es) = (rows_above n i (i + 1) es (omega arith), rows_rise n
 
 -- ---- rows as entries
 
--- an activity's number gives the activity
-activity_is : (a : Activity) → numbered_activity (activity_number a) ≡ a
-activity_is Rest = refl
-activity_is Available = refl
-activity_is Work = refl
-activity_is Drive = refl
-
 -- the number that marks a withdrawn entry gives the mark
 flag_is : (b : Bool) → not (cond b 1 0 == 0) ≡ b
 flag_is true = refl
@@ -76,7 +69,7 @@ listed_with i e a w = record {
 row_listed : (n i : ℕ) (e : Entry) → listed_as (listed_entry (entry_row n i e)) ≡ listed_with i e e.activity e.withdrawn
 unfolding listed_with
 row_listed n i e =
-    ap (λ (a : Activity). listed_with i e a (not (cond e.withdrawn 1 0 == 0))) (activity_is e.activity)
+    ap (λ (a : Activity). listed_with i e a (not (cond e.withdrawn 1 0 == 0))) (activity_back e.activity)
     ∙ ap (listed_with i e e.activity) (flag_is e.withdrawn)
 
 rows_listed : (n i : ℕ) (es : List Entry) → map listed_as (map listed_entry (rows_of_entries n i es)) ≡ numbered_from i es

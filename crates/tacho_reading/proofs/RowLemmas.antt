@@ -1,47 +1,23 @@
 -- Rows of a driver, and the spans that they represent.
-use Rattle.std.proofs.Common.{◌≡◌, ◌≢◌, ℕ, ◌==◌, ◌&&◌, Bool, true, false, cond, List, [], ◌∷◌, ◌++◌, map, filter, refl, sym, ap, ◌∙◌, lit<}
+use Rattle.std.proofs.Common.{◌≡◌, ◌≢◌, ℕ, ◌==◌, ◌&&◌, Bool, true, false, cond, List, [], ◌∷◌, ◌++◌, map, filter, refl, sym, ap, ◌∙◌}
 use Rattle.std.specs.List.{All, slice_index_or}
 use Rattle.std.proofs.lemmas.List.{append-nil}
 use Rattle.std.proofs.lemmas.List.Elements.{All-append, All-map}
 use Rattle.tacho_time.specs.declared.span.Span.{Span}
 use Rattle.tacho_time.specs.declared.span.Mark.{Mark}
-use Rattle.tacho_time.specs.declared.span.Activity.TheVariants.{Rest, Available, Work, Drive}
-use Rattle.tacho_time.specs.declared.span.Activity.{Activity}
 use Rattle.tacho_state.specs.Disjoint as disjoint
 use Rattle.tacho_state.proofs.EqualLemmas.{eq_not, eq_self}
+use Rattle.tacho_state.proofs.NumberLemmas.{mark_back, mark_low}
 use Rattle.tacho_tables.specs.Rows.{SpanRow}
 use Rattle.tacho_tables.specs.Tables.{is_row_near, span_of}
-use Rattle.tacho_reading.specs.Standing.{IsMark, mark_number, numbered_mark, row_span, span_row, spans_of, stored_span}
-
--- ---- numbers
+use Rattle.tacho_reading.specs.Standing.{row_span, span_row, spans_of, stored_span}
+use Rattle.tacho_state.specs.Numbers.{IsMark}
 
 -- ---- marks
 
--- a mark's number gives the mark
-mark_back : (a : Activity) (c : Bool) → numbered_mark (mark_number (record { activity = a; crew = c })) ≡ record { activity = a; crew = c }
-mark_back Rest true = refl
-mark_back Rest false = refl
-mark_back Available true = refl
-mark_back Available false = refl
-mark_back Work true = refl
-mark_back Work false = refl
-mark_back Drive true = refl
-mark_back Drive false = refl
-
 -- the row of a span gives that span
-span_back : (n : ℕ) (s : Span) → row_span (span_row n s) ≡ s
+pub span_back : (n : ℕ) (s : Span) → row_span (span_row n s) ≡ s
 span_back n s = ap (λ (k : Mark). record { start = s.start; past = s.past; mark = k }) (mark_back s.mark.activity s.mark.crew)
-
--- a mark's number is below 8
-mark_below : (a : Activity) (c : Bool) → IsMark (mark_number (record { activity = a; crew = c }))
-mark_below Rest true = lit< tt
-mark_below Rest false = lit< tt
-mark_below Available true = lit< tt
-mark_below Available false = lit< tt
-mark_below Work true = lit< tt
-mark_below Work false = lit< tt
-mark_below Drive true = lit< tt
-mark_below Drive false = lit< tt
 
 -- ---- rows and spans
 
@@ -85,7 +61,7 @@ added_other j n rows spans d = spans_append j rows (map (span_row n) spans)
 pub added_marks : (n : ℕ) (rows : List SpanRow) (spans : List Span) → All (λ r. IsMark r.mark) rows
     → All (λ r. IsMark r.mark) (rows ++ map (span_row n) spans)
 added_marks n rows spans h = All-append (λ r. IsMark r.mark) rows (map (span_row n) spans) h
-    (All-map (λ r. IsMark r.mark) (span_row n) spans (λ i s w. mark_below (slice_index_or spans i s).mark.activity (slice_index_or spans i s).mark.crew))
+    (All-map (λ r. IsMark r.mark) (span_row n) spans (λ i s w. mark_low (slice_index_or spans i s).mark.activity (slice_index_or spans i s).mark.crew))
 
 -- ---- rows near a range
 

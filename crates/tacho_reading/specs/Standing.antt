@@ -1,14 +1,12 @@
 -- Trusted in part: What the archive's tables represent: rows by driver, and the state of all drivers.
-use Rattle.std.specs.Prelude.{◌≡◌, ℕ, ◌+◌, ◌==◌, ◌<◌, ◌≤◌, ◌⊎◌, nat_lt, All, true, false, List, [], ◌∷◌, length, map, filter, not, IsPermutation, Ok, if◌then◌else◌}
+use Rattle.std.specs.Prelude.{◌≡◌, ℕ, ◌+◌, ◌==◌, ◌<◌, ◌≤◌, ◌⊎◌, All, List, [], ◌∷◌, length, map, filter, not, IsPermutation, if◌then◌else◌}
 use Rattle.sqlite.specs.Tree.{Trees}
 use Rattle.tacho_time.specs.declared.span.Span.{Span}
-use Rattle.tacho_time.specs.declared.span.Mark.{Mark}
-use Rattle.tacho_time.specs.declared.span.Activity.{Activity}
-use Rattle.tacho_time.specs.declared.span.Activity.TheVariants.{Rest, Available, Work, Drive}
 use Rattle.tacho_time.specs.Spans.{Gives, IsFirstConflict}
 use Rattle.tacho_state.specs.declared.entry.Entry.{Entry as Listed}
 use Rattle.tacho_state.specs.Distinct.{AreDistinct, HasNot}
 use Rattle.tacho_state.specs.Limits.{IsName, IsNote}
+use Rattle.tacho_state.specs.Numbers.{activity_number, mark_number, numbered_activity, numbered_mark, IsMark}
 use Rattle.tacho_state.specs.State.{Download, Entry, Driver, State, IsDownloaded, Held, AreFull, driver_of}
 use Rattle.tacho_state.specs.Disjoint.{Keeps}
 use Rattle.tacho_state.specs.Content.{AreRead}
@@ -17,29 +15,6 @@ use Rattle.tacho_tables.specs.Rows.{SpanRow, DownloadRow, EntryRow, DriverRow}
 use Rattle.tacho_tables.specs.declared.rows.StoredSpan.{StoredSpan}
 use Rattle.tacho_tables.specs.Tables.{ListedDriver, ListedEntry, Tables, HasTables, has_number, is_of, is_row_near, is_kept_near, span_of, entry_span_of}
 use Rattle.tacho_time.specs.Limits.{greatest_day, greatest_minute}
-
--- ---- marks as numbers: 0 rest, 1 available, 2 work, 3 drive, and 4 more for crew
-
-abbrev pub activity_number : Activity → ℕ
-activity_number Rest = 0
-activity_number Available = 1
-activity_number Work = 2
-activity_number Drive = 3
-
-abbrev pub mark_number : Mark → ℕ
-mark_number k = activity_number k.activity + (if k.crew then 4 else 0)
-
-abbrev pub numbered_activity : ℕ → Activity
-numbered_activity n = if n == 0 then Rest else (if n == 1 then Available else (if n == 2 then Work else Drive))
-
-abbrev pub numbered_mark : ℕ → Mark
-numbered_mark n =
-    if nat_lt n 4 then record { activity = numbered_activity n; crew = false }
-    else record { activity = (if n == 4 then Rest else (if n == 5 then Available else (if n == 6 then Work else Drive))); crew = true }
-
--- the numbers of marks; a greater number is read as a mark too, but is no mark's number
-abbrev pub IsMark : ℕ → Type 0
-IsMark n = n < 8
 
 -- ---- rows of a driver
 

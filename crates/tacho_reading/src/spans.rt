@@ -4,59 +4,15 @@ ghost use Rattle.tacho_time.specs.Spans.{Gives, IsCanonical, IsCanonicalOf};
 ghost use Rattle.tacho_state.specs.Disjoint.{AreInRange};
 ghost use Rattle.tacho_state.specs.Summaries.{told_summary};
 ghost use Rattle.tacho_tables.specs.Tables.{row_of, told_driver, told_entry};
-ghost use Rattle.tacho_reading.specs.Standing.{activity_number, mark_number, numbered_activity, numbered_mark, stored_span, span_row, listed_as, summary_of_listed, HasBaseDay, IsFit, IsListed, HaveNoLine};
+ghost use Rattle.tacho_reading.specs.Standing.{stored_span, span_row, listed_as, summary_of_listed, HasBaseDay, IsFit, IsListed, HaveNoLine};
 
 use std::alloc::{AllocError, Global};
 use tacho_line::Line;
-use tacho_state::{DriverSummary, Entry, EntryLine, StoreFault, line_of};
+use tacho_state::{
+    DriverSummary, Entry, EntryLine, StoreFault, activity_of, line_of, mark_of, number_of_mark,
+};
 use tacho_tables::{StoredDriver, StoredEntry, StoredSpan};
-use tacho_time::{Activity, Day, GREATEST_DAY, GREATEST_MINUTE, Mark, Minute, Span, SpanFault};
-
-/// Returns the number of an activity: 0 rest, 1 available, 2 work, 3 drive.
-fn number_of_activity(activity: Activity) -> u32
-    ensures value { result ≡ activity_number activity }
-    ensures bound { result < 4 }
-{
-    match activity {
-        Activity::Rest => 0,
-        Activity::Available => 1,
-        Activity::Work => 2,
-        Activity::Drive => 3,
-    }
-}
-
-/// Returns the number of a mark: that of its activity, plus 4 for crew.
-fn number_of(mark: Mark) -> u32
-    ensures { result ≡ mark_number mark }
-{
-    number_of_activity(mark.activity) + if mark.crew { 4 } else { 0 }
-}
-
-/// Returns the activity with this number; every number above 2 is drive.
-fn activity_of(number: u32) -> Activity
-    ensures { result ≡ numbered_activity number }
-{
-    match number {
-        0 => Activity::Rest,
-        1 => Activity::Available,
-        2 => Activity::Work,
-        _ => Activity::Drive,
-    }
-}
-
-/// Returns the mark with this number; the numbers of marks end at 7.
-fn mark_of(number: u32) -> Option<Mark>
-    ensures some { IfSome result (λ mark. mark ≡ numbered_mark number) }
-    ensures none { IsNone result ↔ (8 ≤ number) }
-{
-    if number >= 8 {
-        return None;
-    }
-    Some(Mark {
-        activity: activity_of(number % 4),
-        crew: number >= 4,
-    })
-}
+use tacho_time::{Day, GREATEST_DAY, GREATEST_MINUTE, Minute, Span, SpanFault};
 
 /// Returns the minute with this number, if there is one.
 pub fn minute_of(number: u32) -> Option<Minute>
@@ -77,7 +33,7 @@ pub fn span_of(row: &StoredSpan) -> Option<Span>
     Some(Span {
         start: minute_of(row.start)?,
         past: minute_of(row.past)?,
-        mark: mark_of(row.mark)?,
+        mark: mark_of(u64::from(row.mark))?,
     })
 }
 
@@ -132,7 +88,7 @@ fn listed_entry(row: StoredEntry) -> Option<Entry>
     if row.mark >= 4 {
         return None;
     }
-    let activity = activity_of(row.mark);
+    let activity = activity_of(u64::from(row.mark));
     let Ok(line) = EntryLine::new(start, past, activity, row.author, row.note) else {
         return None;
     };
@@ -211,7 +167,7 @@ pub fn stored_row(span: &Span) -> StoredSpan
     StoredSpan {
         start: span.start.number(),
         past: span.past.number(),
-        mark: number_of(span.mark),
+        mark: number_of_mark(span.mark),
     }
 }
 

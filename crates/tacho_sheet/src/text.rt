@@ -1,5 +1,5 @@
 ghost use Rattle.std.specs.Prelude.{◌≡◌, ◌++◌, flat_map, map, IfOk, OnOk, string_bytes};
-ghost use Rattle.tacho_state.specs.Content.{part_number};
+ghost use Rattle.tacho_state.specs.Numbers.{part_number};
 ghost use Rattle.tacho_state.specs.Files.{told_file};
 ghost use Rattle.tacho_state.specs.Summaries.{told_summary};
 ghost use Rattle.tacho_sheet.specs.Text.{entry_line, file_line, kept_word, part_word, summary_line};

@@ -11,15 +11,11 @@ use Rattle.tacho_time.specs.declared.canonical.SpanFault.{SpanFault}
 use Rattle.tacho_time.specs.declared.canonical.SpanFault.TheVariants.{Contradiction as SpanContradiction, Memory as SpanMemory}
 use Rattle.tacho_time.specs.Spans.{Gives, IsCanonicalOf, Conflicts}
 use Rattle.tacho_time.specs.Merge.{IsFirstFault}
-use Rattle.tacho_card.specs.declared.fault.CardFault.{CardFault}
-use Rattle.tacho_card.specs.declared.fault.CardFault.TheVariants.{Memory as CardMemory}
-use Rattle.tacho_card.specs.declared.file.Part.{Part}
 use Rattle.tacho_line.specs.Line.{mark_at, AgreeWithin}
 use Rattle.tacho_line.proofs.LineLemmas.{held_given, given_held as given_held_in}
 use Rattle.tacho_line.proofs.MergeLemmas.{front_gives}
 use Rattle.tacho_state.specs.declared.fault.StoreFault.{StoreFault}
-use Rattle.tacho_state.specs.declared.fault.StoreFault.TheVariants.{Memory, Store, Card}
-use Rattle.tacho_state.specs.Content.{FileTells}
+use Rattle.tacho_state.specs.declared.fault.StoreFault.TheVariants.{Memory, Store}
 use Rattle.tacho_state.specs.Disjoint.{Keeps}
 use Rattle.tacho_state.specs.State.{Download, Entry, Driver, State, driver_of, Held, given_spans, entered_spans, held_spans, held_mark, download_from}
 use Rattle.tacho_state.specs.Steps.{reading_of, line_reading, report_reading}
@@ -30,7 +26,7 @@ use Rattle.tacho_rules.specs.declared.report.Report.{Report}
 use Rattle.tacho_rules.specs.Report.{IsReport}
 use Rattle.tacho_state.proofs.DisjointLemmas.{disjoint_canonical}
 use Rattle.tacho_state.proofs.MapLemmas.{held_map}
-use Rattle.tacho_shelf.specs.Shelf.{AreKept, IsCardFault}
+use Rattle.tacho_shelf.specs.Shelf.{AreKept}
 
 -- ---- downloads by number
 
@@ -105,14 +101,6 @@ reported_at {A = A} n s d (Err f) e (inr is) = subst (λ (g : StoreFault). Answe
 pub no_conflict : (P : ℕ → Mark → Type 0) (fault : SpanFault) → ((m : ℕ) → ¬ (Conflicts P m)) → IsFirstFault P fault → fault ≡ SpanMemory
 no_conflict P (SpanContradiction m) h f = absurd (h m f.0)
 no_conflict P SpanMemory h f = refl
-
--- the fault returned for a card file is that of its import
-pub card_fault : (part : Part) (bytes : List ℕ) (fault : CardFault) (told : StoreFault)
-    → ((fault ≡ CardMemory) × (told ≡ Memory)) ⊎ ((fault ≢ CardMemory) × (told ≡ Card fault))
-    → (fault ≡ CardMemory) ⊎ FileTells part bytes (Err fault) → IsCardFault part bytes told
-card_fault part bytes fault told (inl e) f = inl e.1
-card_fault part bytes fault told (inr e) (inl f) = absurd (e.0 f)
-card_fault part bytes fault told (inr e) (inr f) = inr (fault, e.1, f)
 
 -- ---- a range
 

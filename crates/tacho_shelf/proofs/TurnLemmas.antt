@@ -10,7 +10,8 @@ use Rattle.tacho_state.specs.declared.imported.Imported.{Imported}
 use Rattle.tacho_state.specs.declared.imported.Imported.TheVariants.{Added, Repeated}
 use Rattle.tacho_state.specs.Least.{least_conflict, is_within}
 use Rattle.tacho_state.specs.State.{Driver, State, driver_of, holding, put, given_spans, held_spans, with_download}
-use Rattle.tacho_state.specs.Content.{FileTells, part_number}
+use Rattle.tacho_state.specs.Content.{FileTells}
+use Rattle.tacho_state.specs.Numbers.{part_number}
 use Rattle.tacho_state.specs.Steps.{Turn, Own, Content, most_records, refusal_turn, turn_of, own_turn, kept_by, import_own, import_by_driver, import_step, known_driver}
 use Rattle.tacho_state.specs.Acts.{Answers}
 use Rattle.tacho_state.proofs.ContentLemmas.{one_content}

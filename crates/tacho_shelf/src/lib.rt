@@ -1,7 +1,6 @@
 //! An archive in memory, without SQL: a list of drivers with their downloads and entries.
 #![tactic(auto)]
 
-mod content;
 mod hours;
 mod row;
 mod shelf;

@@ -28,7 +28,7 @@ pub(crate) struct Download {
 
 impl Model for Download {
     ghost use Rattle.tacho_state.specs.State.{Download as Accepted};
-    ghost use Rattle.tacho_state.specs.Content.{part_number};
+    ghost use Rattle.tacho_state.specs.Numbers.{part_number};
 
     ghost Value = { Accepted };
 
@@ -91,7 +91,7 @@ impl Row {
     ghost use Rattle.tacho_state.specs.State.{IsDownloaded, Held, AreFull, given_spans, held_spans, download_from, with_batch};
     ghost use Rattle.tacho_state.specs.Steps.{import_own, enter_own, withdraw_own, withdraw_from, most_records, numbered_from};
     ghost use Rattle.tacho_state.specs.Limits.{next_number};
-    ghost use Rattle.tacho_state.specs.Content.{part_number};
+    ghost use Rattle.tacho_state.specs.Numbers.{part_number};
     ghost use Rattle.tacho_state.specs.Files.{listed_from, told_file};
     ghost use Rattle.tacho_state.specs.Summaries.{summary_of, told_summary};
     ghost use Rattle.tacho_shelf.specs.Shelf.{IsStepFault, IsLeast, IsEnteredAt, IsEntered, AreEntered, AreKept, new_driver, import_answer};

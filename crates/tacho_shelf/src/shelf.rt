@@ -3,7 +3,8 @@ ghost use Rattle.tacho_card.specs.declared.fault.CardFault.{CardFault};
 ghost use Rattle.tacho_state.specs.declared.imported.Imported.TheVariants.{Repeated};
 ghost use Rattle.tacho_line.specs.Line.{mark_at};
 ghost use Rattle.tacho_state.specs.State.{driver_of, driver_with_key, holding};
-ghost use Rattle.tacho_state.specs.Content.{FileTells, part_number};
+ghost use Rattle.tacho_state.specs.Content.{FileTells};
+ghost use Rattle.tacho_state.specs.Numbers.{part_number};
 ghost use Rattle.tacho_state.specs.Batch.{IsBatch, batch_of};
 ghost use Rattle.tacho_state.specs.Steps.{Content, register_step, import_step, enter_step, withdraw_range_step, rebase_step, rekey_step, rename_step, is_another, refusal_turn, owner, name_reading, key_reading, line_reading, entries_reading, file_reading, report_reading, known_driver};
 ghost use Rattle.tacho_state.specs.Reported.{AreStretchesOf, IsHeldWithin, IsDriverReport};
@@ -13,7 +14,6 @@ ghost use Rattle.tacho_state.specs.Summaries.{AreSummaries, driver_reading, told
 ghost use Rattle.tacho_state.specs.Acts.{Answers, caller_number};
 ghost use Rattle.tacho_shelf.specs.Shelf.{Turns, IsOwnerAt, known_by, owner_of, new_driver};
 
-use crate::content::read_content;
 use crate::row::{Row, place_of, place_of_holder, place_of_key};
 use std::alloc::{AllocError, Global};
 use std::marker::Model;
@@ -22,7 +22,7 @@ use tacho_line::Line;
 use tacho_rules::Report;
 use tacho_state::{
     Caller, Driver, DriverSummary, Entered, Entry, EntryLine, FileSummary, Imported, Keeper,
-    StoreFault, is_monday,
+    StoreFault, content_of, is_monday,
 };
 use tacho_stretches::Stretch;
 use tacho_time::{Day, GREATEST_MINUTE, Minute};
@@ -412,7 +412,7 @@ impl Shelf {
         ensures turns { (content : Result Content CardFault) → FileTells part file.now content
             → Turns (λ done. done) self.old self.new result (import_step (caller_number caller) (part_number part) file.now content) }
     {
-        let content = read_content(alloc, part, file)?;
+        let content = content_of(alloc, part, file)?;
         let place = self.owner(caller, &content.holder)?;
         self.drivers[place].import(alloc, part, file, content.spans)
     }

@@ -7,7 +7,8 @@ use Rattle.tacho_card.specs.declared.file.Part.TheVariants as part
 use Rattle.tacho_card.specs.CardFile.{FileBlock, blocks_of, card_file, file_holder, then_held, then_single, with_holder, ReadsFile}
 use Rattle.tacho_card.proofs.FileReadingLaw.{some_reading, one_reading}
 use Rattle.tacho_state.specs.Steps.{Content}
-use Rattle.tacho_state.specs.Content.{BlocksTell, FileTells, HasContent, ReadTells, part_number}
+use Rattle.tacho_state.specs.Content.{BlocksTell, FileTells, HasContent, ReadTells}
+use Rattle.tacho_state.specs.Numbers.{part_number}
 
 -- blocks that name a holder have a content
 blocks_tell : (part : Part) (blocks : List FileBlock) (holder : List ℕ) → file_holder blocks ≡ Ok holder

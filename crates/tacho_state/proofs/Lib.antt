@@ -1,3 +1,4 @@
+pub mod NumberLemmas
 pub mod DisjointLemmas
 pub mod NearLemmas
 pub mod OrderLemmas

@@ -3,18 +3,12 @@ use Rattle.std.specs.Prelude.{◌≡◌, ℕ, List, [], ◌∷◌, Result, Ok, E
 use Rattle.tacho_card.specs.declared.fault.CardFault.{CardFault}
 use Rattle.tacho_card.specs.declared.fault.CardFault.TheVariants as card
 use Rattle.tacho_card.specs.declared.file.Part.{Part}
-use Rattle.tacho_card.specs.declared.file.Part.TheVariants as part
 use Rattle.tacho_card.specs.CardFile.{FileBlock, card_file, file_holder, ReadsFile}
 use Rattle.tacho_state.specs.declared.fault.StoreFault.{StoreFault}
 use Rattle.tacho_state.specs.declared.fault.StoreFault.TheVariants.{Card, Memory}
+use Rattle.tacho_state.specs.Numbers.{part_number}
 use Rattle.tacho_state.specs.State.{Download}
 use Rattle.tacho_state.specs.Steps.{Content}
-
--- the number of a part: 0 both generations, 1 the first, 2 the second
-abbrev pub part_number : Part → ℕ
-part_number part.Both = 0
-part_number part.First = 1
-part_number part.Second = 2
 
 -- the content of blocks is their holder and the spans of the part, or the fault in reading the part
 abbrev pub BlocksTell : Part → List FileBlock → Result Content CardFault → Type 0

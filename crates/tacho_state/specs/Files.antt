@@ -3,7 +3,7 @@ use Rattle.std.specs.Prelude.{ℕ, ◌+◌, ◌-◌, List, [], ◌∷◌, Option
 use Rattle.sha2.specs.Sha256.{sha256}
 use Rattle.tacho_time.specs.declared.span.Span.{Span}
 use Rattle.tacho_state.specs.State.{Download, State, driver_of}
-use Rattle.tacho_state.specs.Content.{part_number}
+use Rattle.tacho_state.specs.Numbers.{part_number}
 use Rattle.tacho_state.specs.Steps.{reading_of}
 use Rattle.tacho_state.specs.declared.fault.StoreFault.{StoreFault}
 use Rattle.tacho_state.specs.declared.file.FileSummary.{FileSummary}

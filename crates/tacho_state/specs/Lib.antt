@@ -4,6 +4,7 @@ pub mod Least
 pub mod Disjoint
 pub mod Steps
 pub mod Limits
+pub mod Numbers
 pub mod Registration
 pub mod Content
 pub mod Distinct

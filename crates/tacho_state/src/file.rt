@@ -1,5 +1,5 @@
 ghost use Rattle.std.specs.Prelude.{◌≡◌, ◌-◌, length, slice_get};
-ghost use Rattle.tacho_state.specs.Content.{part_number};
+ghost use Rattle.tacho_state.specs.Numbers.{part_number};
 ghost use Rattle.tacho_state.specs.Files.{listed_file, past_of, start_of, told_file};
 
 use sha2::{Digest, Sha256};

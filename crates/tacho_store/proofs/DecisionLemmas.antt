@@ -12,7 +12,7 @@ use Rattle.tacho_state.specs.declared.fault.StoreFault.TheVariants.{Memory, Stor
 use Rattle.tacho_state.specs.declared.imported.Imported.{Imported}
 use Rattle.tacho_state.specs.declared.imported.Imported.TheVariants.{Repeated}
 use Rattle.tacho_state.specs.Acts.{Answers}
-use Rattle.tacho_state.specs.Content.{part_number}
+use Rattle.tacho_state.specs.Numbers.{part_number}
 use Rattle.tacho_state.specs.Steps.{turn_of, import_own}
 use Rattle.tacho_state.specs.Disjoint.{AreInRange, HasNews, near}
 use Rattle.tacho_state.specs.State.{Driver, State, driver_of, put, with_download}

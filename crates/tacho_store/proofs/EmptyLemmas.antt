@@ -3,7 +3,8 @@ use Rattle.std.proofs.Common.{[], refl}
 use Rattle.std.proofs.lemmas.List.Elements.{All-nil}
 use Rattle.sqlite.specs.Tree.{Trees}
 use Rattle.tacho_tables.specs.Tables.{HasTables, no_rows}
-use Rattle.tacho_reading.specs.Standing.{TablesRepresent, IsMark, Represents}
+use Rattle.tacho_reading.specs.Standing.{TablesRepresent, Represents}
+use Rattle.tacho_state.specs.Numbers.{IsMark}
 
 -- as lists
 pub empty_is : TablesRepresent no_rows []

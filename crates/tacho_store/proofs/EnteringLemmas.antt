@@ -25,7 +25,8 @@ use Rattle.tacho_state.proofs.StepLemmas.{contradicted_batch, entered_batch, ful
 use Rattle.tacho_tables.specs.declared.rows.StoredSpan.{StoredSpan}
 use Rattle.tacho_tables.specs.Rows.{SpanRow, EntryRow}
 use Rattle.tacho_tables.specs.Tables.{Tables, HasTables, entered_row, row_of}
-use Rattle.tacho_reading.specs.Standing.{Represents, Follows, TablesRepresent, activity_number, spans_of, span_row, entry_row, rows_of_entries, stored_span}
+use Rattle.tacho_reading.specs.Standing.{Represents, Follows, TablesRepresent, spans_of, span_row, entry_row, rows_of_entries, stored_span}
+use Rattle.tacho_state.specs.Numbers.{activity_number}
 use Rattle.tacho_reading.specs.Finding.{IsFindingFault}
 use Rattle.tacho_reading.proofs.ApartLemmas.{held_apart}
 use Rattle.tacho_reading.proofs.LineWithinLemmas.{AreRead}

@@ -7,7 +7,8 @@ use Rattle.tacho_state.specs.declared.fault.StoreFault.{StoreFault}
 use Rattle.tacho_state.specs.declared.fault.StoreFault.TheVariants.{Card, Memory}
 use Rattle.tacho_state.specs.declared.imported.Imported.{Imported}
 use Rattle.tacho_state.specs.Acts.{Acts, Answers, IsAnswered, IsOfNoFile}
-use Rattle.tacho_state.specs.Content.{FileTells, part_number}
+use Rattle.tacho_state.specs.Content.{FileTells}
+use Rattle.tacho_state.specs.Numbers.{part_number}
 use Rattle.tacho_state.specs.State.{State}
 use Rattle.tacho_state.specs.Steps.{Content, Turn, import_step}
 use Rattle.tacho_state.proofs.ContentLemmas.{one_content}

@@ -4,7 +4,8 @@ use Rattle.tacho_time.specs.declared.span.Span.{Span}
 use Rattle.tacho_time.specs.Spans.{Gives, IsCanonicalOf}
 use Rattle.tacho_line.specs.Line.{AreGains}
 use Rattle.tacho_card.specs.declared.file.Part.{Part}
-use Rattle.tacho_state.specs.Content.{AreRead, FileTells, part_number}
+use Rattle.tacho_state.specs.Content.{AreRead, FileTells}
+use Rattle.tacho_state.specs.Numbers.{part_number}
 use Rattle.tacho_state.specs.Disjoint.{Keeps, near, AreInRange}
 use Rattle.tacho_state.specs.State.{Download, Driver, State, IsDownloaded, Held, driver_of, put, with_download}
 use Rattle.tacho_state.specs.Steps.{Content}

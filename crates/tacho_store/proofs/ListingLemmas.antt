@@ -16,7 +16,8 @@ use Rattle.tacho_state.specs.declared.fault.StoreFault.{StoreFault}
 use Rattle.tacho_state.specs.declared.fault.StoreFault.TheVariants.{Card, Memory, Store, UnknownDriver}
 use Rattle.tacho_state.specs.declared.file.FileSummary.{FileSummary}
 use Rattle.tacho_state.specs.Acts.{Answers}
-use Rattle.tacho_state.specs.Content.{AreRead, FileTells, HasContent, part_number}
+use Rattle.tacho_state.specs.Content.{AreRead, FileTells, HasContent}
+use Rattle.tacho_state.specs.Numbers.{part_number}
 use Rattle.tacho_state.specs.Files.{ListedFile, listed_file, listed_from, files_reading, told_file}
 use Rattle.tacho_state.specs.State.{Download, Driver, State, driver_of, download_from}
 use Rattle.tacho_state.specs.Steps.{Content, reading_of}

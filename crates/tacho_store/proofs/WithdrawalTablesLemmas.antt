@@ -6,8 +6,6 @@ use Rattle.std.proofs.lemmas.List.Elements.{All-filter}
 use Rattle.std.proofs.lemmas.List.Sorted.{IsPermutation-sym, IsPermutation-map}
 use Rattle.tacho_time.specs.declared.span.Span.{Span}
 use Rattle.tacho_time.specs.declared.span.Mark.{Mark}
-use Rattle.tacho_time.specs.declared.span.Activity.{Activity}
-use Rattle.tacho_time.specs.declared.span.Activity.TheVariants.{Rest, Available, Work, Drive}
 use Rattle.tacho_time.specs.Spans.{Gives, IsCanonicalOf}
 use Rattle.tacho_line.specs.Line.{IsWithin}
 use Rattle.tacho_line.proofs.MergeLemmas.{append_gives, front_gives, back_gives}
@@ -15,13 +13,15 @@ use Rattle.tacho_state.specs.Disjoint as disjoint
 use Rattle.tacho_state.specs.Disjoint.{Keeps, near, far, outside}
 use Rattle.tacho_state.specs.State.{Entry, Driver, State, Held, AreFull, driver_of, entry_from, entry_span, entered_spans, marked_from, put, with_marked}
 use Rattle.tacho_state.proofs.DisjointLemmas.{disjoint_canonical}
+use Rattle.tacho_state.proofs.NumberLemmas.{single_back}
 use Rattle.tacho_state.proofs.OrderLemmas.{kept_again}
 use Rattle.tacho_state.proofs.WithdrawLemmas.{withdrawn_held}
 use Rattle.tacho_state.proofs.EqualLemmas.{eq_not, eq_self, eq_true}
 use Rattle.tacho_tables.specs.declared.rows.StoredSpan.{StoredSpan}
 use Rattle.tacho_tables.specs.Rows.{DriverRow, EntryRow, SpanRow}
 use Rattle.tacho_tables.specs.Tables.{Tables, is_row_near, is_kept_near, span_of, entry_span_of, with_withdrawn}
-use Rattle.tacho_reading.specs.Standing.{IsMark, activity_number, numbered_mark, driver_columns, entry_row, rows_of_entries, driver_entry_rows, row_span, span_row, spans_of, stored_span, IsReadNear, IsKeptNear, RowsRepresent, TablesRepresent}
+use Rattle.tacho_reading.specs.Standing.{driver_columns, entry_row, rows_of_entries, driver_entry_rows, row_span, span_row, spans_of, stored_span, IsReadNear, IsKeptNear, RowsRepresent, TablesRepresent}
+use Rattle.tacho_state.specs.Numbers.{IsMark}
 use Rattle.tacho_reading.proofs.RowLemmas.{added_own, added_other, added_marks, near_spans}
 use Rattle.tacho_reading.proofs.NearRowLemmas.{permuted_gives}
 use Rattle.tacho_state.proofs.PutLemmas.{found_number}
@@ -190,16 +190,9 @@ kept_own n a b (r ∷ rows) = go (r.driver == n) (kept_own n a b rows) where
   go true e = ap (λ (x : List EntryRow). cond (is_kept a b r) (r ∷ x) x) e
   go false e = e
 
--- an activity's number gives that activity back, single
-activity_back : (a : Activity) → numbered_mark (activity_number a) ≡ record { activity = a; crew = false }
-activity_back Rest = refl
-activity_back Available = refl
-activity_back Work = refl
-activity_back Drive = refl
-
 -- the span of an entry's row is the entry's
 entry_back : (n i : ℕ) (e : Entry) → stored_span (entry_span_of (entry_row n i e)) ≡ entry_span e
-entry_back n i e = ap (λ (k : Mark). record { start = e.start; past = e.past; mark = k }) (activity_back e.activity)
+entry_back n i e = ap (λ (k : Mark). record { start = e.start; past = e.past; mark = k }) (single_back e.activity)
 
 -- the rows near a range give the spans of the entries near it
 rows_near : (n i a b : ℕ) (es : List Entry)

@@ -7,7 +7,8 @@ use Rattle.tacho_state.specs.declared.fault.StoreFault.{StoreFault}
 use Rattle.tacho_state.specs.declared.fault.StoreFault.TheVariants.{UnknownDriver, NotYourCard, Full}
 use Rattle.tacho_state.specs.declared.imported.Imported.{Imported}
 use Rattle.tacho_state.specs.declared.imported.Imported.TheVariants.{Added, Repeated}
-use Rattle.tacho_state.specs.Content.{FileTells, part_number}
+use Rattle.tacho_state.specs.Content.{FileTells}
+use Rattle.tacho_state.specs.Numbers.{part_number}
 use Rattle.tacho_state.specs.State.{Driver, State, driver_of, holding, put, with_download}
 use Rattle.tacho_state.specs.Steps.{Content, Turn, turn_of, import_own, most_records, known_driver}
 use Rattle.tacho_tables.specs.Rows.{SpanRow}

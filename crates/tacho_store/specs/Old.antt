@@ -5,7 +5,8 @@ use Rattle.tacho_time.specs.declared.span.Activity.{Activity}
 use Rattle.tacho_state.specs.State.{Download, Entry, Driver, State}
 use Rattle.tacho_tables.specs.Rows.{OldEntryRow}
 use Rattle.tacho_tables.specs.Tables.{OldTables, HasOldTables, carry_over}
-use Rattle.tacho_reading.specs.Standing.{TablesRepresent, activity_number}
+use Rattle.tacho_reading.specs.Standing.{TablesRepresent}
+use Rattle.tacho_state.specs.Numbers.{activity_number}
 
 -- hours that were entered: minutes from start to before past
 pub record OldEntry : Type 0 where

@@ -1,5 +1,5 @@
 ghost use Rattle.std.specs.Prelude.{◌≡◌, ◌≢◌, false, map, IfOk, IfErr, IfSome, IsNone};
-ghost use Rattle.tacho_state.specs.Content.{HasContent, part_number};
+ghost use Rattle.tacho_state.specs.Content.{HasContent};
 ghost use Rattle.tacho_state.specs.Files.{files_reading, listed_file, told_file};
 ghost use Rattle.tacho_state.specs.State.{Driver, driver_of};
 ghost use Rattle.tacho_state.specs.Steps.{Content};
@@ -10,24 +10,10 @@ ghost use Rattle.tacho_store.specs.Listing.{IsFileOf};
 
 use sqlite::{Alter, Connection, Transaction};
 use std::alloc::Global;
-use tacho_card::Part;
 use tacho_reading::fault::store_fault;
 use tacho_reading::finding::driver_with;
-use tacho_state::{FileSummary, StoreFault, content_of, file_summary};
+use tacho_state::{FileSummary, StoreFault, content_of, file_summary, part_of};
 use tacho_tables::{StoredFile, downloads, opening};
-
-/// The part for which this number is stored, if there is one: 0 both, 1 first, 2 second.
-fn part_of(number: u32) -> Option<Part>
-    ensures some { IfSome result (λ part. part_number part ≡ number) }
-    ensures none { IsNone result → (part : Part) → part_number part ≢ number }
-{
-    match number {
-        0 => Some(Part::Both),
-        1 => Some(Part::First),
-        2 => Some(Part::Second),
-        _ => None,
-    }
-}
 
 /// Returns the fault of a reading that meets a stored card file with this fault. Out of memory stays; any other fault is a store failure.
 fn fault_of_stored(fault: StoreFault) -> StoreFault
@@ -52,7 +38,7 @@ fn summary_of(alloc: Global, number: u32, stored: &StoredFile) -> Result<FileSum
     ensures cause { result ≡ Err StoreFault.Store → (content : Content)
         → ¬ HasContent stored.now.part stored.now.file.items content }
 {
-    let Some(part) = part_of(stored.part) else {
+    let Some(part) = part_of(u64::from(stored.part)) else {
         return Err(StoreFault::Store);
     };
     match content_of(alloc, part, &stored.file) {

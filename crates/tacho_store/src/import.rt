@@ -5,7 +5,8 @@ ghost use Rattle.tacho_time.specs.Spans.{IsCanonical};
 ghost use Rattle.tacho_state.specs.State.{State, Driver, driver_of};
 ghost use Rattle.tacho_state.specs.declared.imported.Imported.TheVariants.{Repeated};
 ghost use Rattle.tacho_state.specs.Steps.{import_step};
-ghost use Rattle.tacho_state.specs.Content.{FileTells, part_number};
+ghost use Rattle.tacho_state.specs.Content.{FileTells};
+ghost use Rattle.tacho_state.specs.Numbers.{part_number};
 ghost use Rattle.tacho_state.specs.Acts.{caller_number, IsOfNoFile};
 ghost use Rattle.tacho_tables.specs.Tables.{row_of, IsArchive};
 ghost use Rattle.tacho_tables.specs.Calls.{Changes};
@@ -21,7 +22,7 @@ use tacho_reading::fault::store_fault;
 use tacho_reading::finding::driver_with;
 use tacho_reading::near::rows_near;
 use tacho_reading::spans::{line_of_stored, range_of, stored};
-use tacho_state::{Caller, CardContent, Imported, StoreFault, first_number};
+use tacho_state::{Caller, CardContent, Imported, StoreFault, first_number, number_of_part};
 use tacho_tables::{SpanTable, StoredSpan, TableFault, downloads, drivers, opening, spans};
 use tacho_time::Span;
 
@@ -125,17 +126,6 @@ fn write_download<S: Alter>(
     downloads::insert(tx, driver, number, part, file)?;
     spans::insert_all(tx, SpanTable::CardSpans, driver, cards)?;
     spans::insert_all(tx, SpanTable::Held, driver, helds)
-}
-
-/// The number that is stored for a part: 0 both, 1 first, 2 second.
-fn number_of_part(part: Part) -> u32
-    ensures { result ≡ part_number part }
-{
-    match part {
-        Part::Both => 0,
-        Part::First => 1,
-        Part::Second => 2,
-    }
 }
 
 /// Adds a driver's download. `news` is what is new of its spans. S14. Allocates all memory before the first write.

@@ -1,7 +1,5 @@
-use Rattle.std.proofs.Common.{sym}
 use Rattle.tacho_check.proofs.FileLemmas.{refused_is}
 use Rattle.tacho_check.proofs.files.content.Goals as goal
 
 pub returns-in-Err : goal.returns-in-Err
-returns-in-Err c = refused_is c.args.part c.args.file.now c.in-Ok.card c.in-Err.fault c.refused.result
-    (sym c.in-Ok.ensures) c.in-Err.ensures c.refused.ensures
+returns-in-Err c = refused_is c.args.part c.args.file.now c.in-Err.fault c.refused.result c.in-Err.ensures.told c.refused.ensures

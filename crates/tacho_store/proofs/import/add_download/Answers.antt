@@ -1,6 +1,6 @@
 use Rattle.std.proofs.Common.{rules, ◌≡◌, ◌∙◌, map, sym, subst}
 use Rattle.sqlite.specs.Held.{state}
-use Rattle.tacho_state.specs.Content.{part_number}
+use Rattle.tacho_state.specs.Numbers.{part_number}
 use Rattle.tacho_tables.specs.Tables.{Turns, row_of}
 use Rattle.tacho_reading.specs.Standing.{Follows, span_row}
 use Rattle.tacho_reading.proofs.MappedLemmas.{was_ok}

@@ -1,6 +1,6 @@
 use Rattle.std.proofs.Common.{rules}
 use Rattle.tacho_state.specs.Acts.{caller_number}
-use Rattle.tacho_state.specs.Content.{part_number}
+use Rattle.tacho_state.specs.Numbers.{part_number}
 use Rattle.tacho_state.specs.Steps.{Content}
 use Rattle.tacho_reading.proofs.LookUpLemmas.{handed_on}
 use Rattle.tacho_store.specs.Importing.{content_told}

@@ -1,6 +1,6 @@
 use Rattle.std.proofs.Common.{rules, refl, sym, subst}
 use Rattle.sqlite.specs.Held.{state}
-use Rattle.tacho_state.specs.Content.{part_number}
+use Rattle.tacho_state.specs.Numbers.{part_number}
 use Rattle.tacho_store.proofs.StepsLemmas.{FollowsIn, still_follows, given_by, given_then}
 use Rattle.tacho_store.proofs.AdditionLemmas.{repeated_answer, repeated_after}
 use Rattle.tacho_store.proofs.DecisionLemmas.{handed_fault, is_repeated, is_new, still_new}

@@ -2,7 +2,7 @@ use Rattle.std.proofs.Common.{◌≡◌, ◌∙◌, ◌++◌, ◌∷◌, [], Lis
 use Rattle.tacho_time.specs.declared.span.Span.{Span}
 use Rattle.tacho_time.specs.Spans.{IsCanonical}
 use Rattle.tacho_state.specs.State.{Download, Driver}
-use Rattle.tacho_state.specs.Content.{part_number}
+use Rattle.tacho_state.specs.Numbers.{part_number}
 use Rattle.tacho_shelf.specs.Shelf.{AreKept}
 use Rattle.tacho_shelf.proofs.GainLemmas.{none_empty}
 use Rattle.tacho_shelf.proofs.ImportLemmas.{kept_download}
