@@ -18,8 +18,9 @@ use sqlite::{Alter, Connection, Transaction};
 use sqlite_trees::store::Store;
 use std::alloc::Global;
 use tacho_reading::fault::store_fault;
+use tacho_reading::read_within;
 use tacho_state::StoreFault;
-use tacho_tables::{TableFault, opening};
+use tacho_tables::TableFault;
 
 /// Judges the rows of all drivers in the order of their numbers, within a transaction.
 fn check_in<S: Alter>(
@@ -61,15 +62,7 @@ fn check_drivers<S: Alter>(
     ensures checks { Checks S.Store conn.old conn.new result
         (λ layout db found. IsReadable layout db → IsChecked layout db found) }
 {
-    // For the proof alone: nothing is pending, so what is seen is what was committed.
-    let _settled = conn.is_autocommit();
-    let mut tx = conn.transaction();
-    let found = checked_in(alloc, &mut tx);
-    tx.rollback();
-    match opening::ask(conn) {
-        Ok(()) => found,
-        Err(fault) => Err(store_fault(fault)),
-    }
+    read_within!(conn, tx, checked_in(alloc, &mut tx))
 }
 
 /// Likewise, once `meta` and the table of schema 1 are known to be as they have to be: else it fails with S12.

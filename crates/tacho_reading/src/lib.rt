@@ -10,5 +10,8 @@ pub mod near;
 pub mod reading;
 pub mod spans;
 mod stretching;
+mod within;
 
 pub use feeding::feed_rows;
+// The macros of `within` name it.
+pub use tacho_tables::opening;

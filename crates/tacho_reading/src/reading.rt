@@ -18,6 +18,7 @@ use crate::fault::store_fault;
 use crate::feeding::feed_held;
 use crate::finding::driver_with;
 use crate::near::{first_start, rows_near};
+use crate::read_within;
 use crate::spans::{line_of_stored, listed_entries, summaries_of, summary_of};
 use crate::stretching::take_held;
 use sqlite::{Alter, Connection, Transaction};
@@ -28,7 +29,7 @@ use tacho_rules::limits::LATEST;
 use tacho_rules::{Report, Scan};
 use tacho_state::{DriverSummary, Entry, StoreFault, base_of};
 use tacho_stretches::{Stretch, StretchPass};
-use tacho_tables::{SpanTable, downloads, drivers, entries, held, opening, spans};
+use tacho_tables::{SpanTable, downloads, drivers, entries, held, spans};
 use tacho_time::{GREATEST_MINUTE, Minute};
 
 /// Reads the number of the driver with this key, within a transaction.
@@ -45,15 +46,7 @@ pub fn who<S: Alter>(conn: &mut Connection<S>, key: &[u8]) -> Result<Option<u32>
     ensures autocommit { conn.new.in_transaction ≡ false }
     ensures reads { ReadsOn S.Store (λ found. found) conn.old conn.new result (owner key.now) }
 {
-    // For the proof alone: nothing is pending, so what is seen is what was committed.
-    let _settled = conn.is_autocommit();
-    let mut tx = conn.transaction();
-    let found = who_in(&mut tx, key);
-    tx.rollback();
-    match opening::ask(conn) {
-        Ok(()) => found,
-        Err(fault) => Err(store_fault(fault)),
-    }
+    read_within!(conn, tx, who_in(&mut tx, key))
 }
 
 /// Reads all drivers, within a transaction.
@@ -79,15 +72,7 @@ pub fn drivers<S: Alter>(
     ensures drivers { HasCleanDisk (state S.Store conn.new) → (s : State) → SeesWhileOpen (state S.Store conn.old) s
         → IfOk result (λ found. AreSummaries s (map told_summary found.items)) }
 {
-    // For the proof alone: nothing is pending, so what is seen is what was committed.
-    let _settled = conn.is_autocommit();
-    let mut tx = conn.transaction();
-    let found = drivers_in(alloc, &mut tx);
-    tx.rollback();
-    match opening::ask(conn) {
-        Ok(()) => found,
-        Err(fault) => Err(store_fault(fault)),
-    }
+    read_within!(conn, tx, drivers_in(alloc, &mut tx))
 }
 
 /// Reads what is listed of a driver, within a transaction: S4. A row without a base day, which no archive writes, is a store failure.
@@ -108,15 +93,7 @@ pub fn driver<S: Alter>(conn: &mut Connection<S>, driver: u32) -> Result<DriverS
     ensures autocommit { conn.new.in_transaction ≡ false }
     ensures reads { ReadsOn S.Store (λ found. told_summary found) conn.old conn.new result (driver_reading driver) }
 {
-    // For the proof alone: nothing is pending, so what is seen is what was committed.
-    let _settled = conn.is_autocommit();
-    let mut tx = conn.transaction();
-    let found = driver_in(&mut tx, driver);
-    tx.rollback();
-    match opening::ask(conn) {
-        Ok(()) => found,
-        Err(fault) => Err(store_fault(fault)),
-    }
+    read_within!(conn, tx, driver_in(&mut tx, driver))
 }
 
 /// Reads a driver's key, within a transaction: S4.
@@ -134,15 +111,7 @@ pub fn key<S: Alter>(conn: &mut Connection<S>, driver: u32) -> Result<String, St
     ensures autocommit { conn.new.in_transaction ≡ false }
     ensures reads { ReadsOn S.Store (λ key. string_bytes key) conn.old conn.new result (key_reading driver) }
 {
-    // For the proof alone: nothing is pending, so what is seen is what was committed.
-    let _settled = conn.is_autocommit();
-    let mut tx = conn.transaction();
-    let found = key_in(&mut tx, driver);
-    tx.rollback();
-    match opening::ask(conn) {
-        Ok(()) => found,
-        Err(fault) => Err(store_fault(fault)),
-    }
+    read_within!(conn, tx, key_in(&mut tx, driver))
 }
 
 /// Reads a driver's name, within a transaction: S4.
@@ -160,15 +129,7 @@ pub fn name<S: Alter>(conn: &mut Connection<S>, driver: u32) -> Result<String, S
     ensures autocommit { conn.new.in_transaction ≡ false }
     ensures reads { ReadsOn S.Store (λ name. string_bytes name) conn.old conn.new result (name_reading driver) }
 {
-    // For the proof alone: nothing is pending, so what is seen is what was committed.
-    let _settled = conn.is_autocommit();
-    let mut tx = conn.transaction();
-    let found = name_in(&mut tx, driver);
-    tx.rollback();
-    match opening::ask(conn) {
-        Ok(()) => found,
-        Err(fault) => Err(store_fault(fault)),
-    }
+    read_within!(conn, tx, name_in(&mut tx, driver))
 }
 
 /// Reads the bytes of a driver's download, within a transaction: S4, S10.
@@ -198,15 +159,7 @@ pub fn download<S: Alter>(
     ensures autocommit { conn.new.in_transaction ≡ false }
     ensures reads { ReadsOn S.Store (λ bytes. bytes.items) conn.old conn.new result (file_reading driver number) }
 {
-    // For the proof alone: nothing is pending, so what is seen is what was committed.
-    let _settled = conn.is_autocommit();
-    let mut tx = conn.transaction();
-    let file = download_in(&mut tx, driver, number);
-    tx.rollback();
-    match opening::ask(conn) {
-        Ok(()) => file,
-        Err(fault) => Err(store_fault(fault)),
-    }
+    read_within!(conn, tx, download_in(&mut tx, driver, number))
 }
 
 /// Reads a driver's timeline, within a transaction: S4.
@@ -233,15 +186,7 @@ pub fn line<S: Alter>(
     ensures autocommit { conn.new.in_transaction ≡ false }
     ensures reads { ReadsOn S.Store (λ line. mark_at line) conn.old conn.new result (line_reading driver) }
 {
-    // For the proof alone: nothing is pending, so what is seen is what was committed.
-    let _settled = conn.is_autocommit();
-    let mut tx = conn.transaction();
-    let line = line_in(alloc, &mut tx, driver);
-    tx.rollback();
-    match opening::ask(conn) {
-        Ok(()) => line,
-        Err(fault) => Err(store_fault(fault)),
-    }
+    read_within!(conn, tx, line_in(alloc, &mut tx, driver))
 }
 
 /// Reads what a driver holds in a range, within a transaction: S4. Reads only the rows near the range.
@@ -282,15 +227,11 @@ pub fn line_within<S: Alter>(
     ensures within { HasCleanDisk (state S.Store conn.new) → (s : State) → SeesWhileOpen (state S.Store conn.old) s
         → IfOk result (IsHeldWithin driver start past s) }
 {
-    // For the proof alone: nothing is pending, so what is seen is what was committed.
-    let _settled = conn.is_autocommit();
-    let mut tx = conn.transaction();
-    let line = line_within_in(alloc, &mut tx, driver, start, past);
-    tx.rollback();
-    match opening::ask(conn) {
-        Ok(()) => line,
-        Err(fault) => Err(store_fault(fault)),
-    }
+    read_within!(
+        conn,
+        tx,
+        line_within_in(alloc, &mut tx, driver, start, past)
+    )
 }
 
 /// Reads a driver's entries, within a transaction: S4.
@@ -317,15 +258,7 @@ pub fn entries<S: Alter>(
     ensures autocommit { conn.new.in_transaction ≡ false }
     ensures reads { ReadsOn S.Store (λ entries. entries.items) conn.old conn.new result (entries_reading driver) }
 {
-    // For the proof alone: nothing is pending, so what is seen is what was committed.
-    let _settled = conn.is_autocommit();
-    let mut tx = conn.transaction();
-    let found = entries_in(alloc, &mut tx, driver);
-    tx.rollback();
-    match opening::ask(conn) {
-        Ok(()) => found,
-        Err(fault) => Err(store_fault(fault)),
-    }
+    read_within!(conn, tx, entries_in(alloc, &mut tx, driver))
 }
 
 /// Where to begin to read a driver's rows.
@@ -373,15 +306,7 @@ fn begin<S: Alter>(
     ensures begun { HasCleanDisk (state S.Store conn.new) → (s : State) → SeesWhileOpen (state S.Store conn.old) s
         → IfOk result (IsBegun (state S.Store conn.new).now.trees driver from s) }
 {
-    // For the proof alone: nothing is pending, so what is seen is what was committed.
-    let _settled = conn.is_autocommit();
-    let mut tx = conn.transaction();
-    let found = begin_in(&mut tx, driver, from);
-    tx.rollback();
-    match opening::ask(conn) {
-        Ok(()) => found,
-        Err(fault) => Err(store_fault(fault)),
-    }
+    read_within!(conn, tx, begin_in(&mut tx, driver, from))
 }
 
 /// Returns the report of a driver from their base: S4. Reads the driver's rows one at a time, from the base up to the horizon.

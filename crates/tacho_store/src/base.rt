@@ -5,10 +5,11 @@ ghost use Rattle.tacho_state.specs.Acts.{IsOfNoFile};
 ghost use Rattle.tacho_reading.specs.Kept.{ActsOn};
 
 use sqlite::{Alter, Connection, Transaction};
+use tacho_reading::act_within;
 use tacho_reading::fault::store_fault;
 use tacho_reading::finding::driver_with;
 use tacho_state::{StoreFault, is_monday};
-use tacho_tables::{drivers, opening};
+use tacho_tables::drivers;
 use tacho_time::Day;
 
 /// Sets a driver's base, within a transaction: S4, S9.
@@ -34,24 +35,5 @@ pub fn rebase<S: Alter>(conn: &mut Connection<S>, driver: u32, base: Day) -> Res
     ensures of_no_file { IsOfNoFile result }
     ensures acts { ActsOn S.Store (λ _. tt) conn.old conn.new result (rebase_step driver base) }
 {
-    // For the proof alone: nothing is pending, so what is seen is what was committed.
-    let _settled = conn.is_autocommit();
-    let mut tx = conn.transaction();
-    match rebase_in(&mut tx, driver, base) {
-        Ok(()) => match tx.commit() {
-            Ok(()) => Ok(()),
-            Err(_) => {
-                // For the proof alone: the commit that failed left nothing pending.
-                let _undone = conn.is_autocommit();
-                Err(StoreFault::Store)
-            }
-        },
-        Err(fault) => {
-            tx.rollback();
-            match opening::ask(conn) {
-                Ok(()) => Err(fault),
-                Err(failed) => Err(store_fault(failed)),
-            }
-        }
-    }
+    act_within!(conn, tx, rebase_in(&mut tx, driver, base))
 }

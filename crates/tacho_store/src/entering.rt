@@ -15,13 +15,14 @@ ghost use Rattle.tacho_store.specs.Entering.{AreNumbered, AreToEnter, enter_turn
 use crate::news::gains_of;
 use sqlite::{Alter, Connection, Transaction};
 use std::alloc::{AllocError, Global};
+use tacho_reading::act_within;
 use tacho_reading::fault::store_fault;
 use tacho_reading::finding::driver_with;
 use tacho_reading::near::rows_near;
 use tacho_reading::spans::{line_of_stored, stored, stored_row};
 use tacho_state::{Entered, EntryLine, StoreFault, first_number};
 use tacho_tables::entries::NewEntry;
-use tacho_tables::{SpanTable, StoredSpan, TableFault, drivers, entries, opening, spans};
+use tacho_tables::{SpanTable, StoredSpan, TableFault, drivers, entries, spans};
 use tacho_time::{Mark, Span};
 
 /// The span that a line gives. Its mark is single.
@@ -198,24 +199,5 @@ pub fn enter<S: Alter>(
     ensures acts { ActsOn S.Store (λ done. done.first) conn.old conn.new result (enter_step driver (batch_of lines.now)) }
     ensures count { IfOk result (λ done. done.count ≡ length lines.now) }
 {
-    // For the proof alone: nothing is pending, so what is seen is what was committed.
-    let _settled = conn.is_autocommit();
-    let mut tx = conn.transaction();
-    match enter_in(alloc, &mut tx, driver, lines) {
-        Ok(done) => match tx.commit() {
-            Ok(()) => Ok(done),
-            Err(_) => {
-                // For the proof alone: the commit that failed left nothing pending.
-                let _undone = conn.is_autocommit();
-                Err(StoreFault::Store)
-            }
-        },
-        Err(fault) => {
-            tx.rollback();
-            match opening::ask(conn) {
-                Ok(()) => Err(fault),
-                Err(failed) => Err(store_fault(failed)),
-            }
-        }
-    }
+    act_within!(conn, tx, enter_in(alloc, &mut tx, driver, lines))
 }

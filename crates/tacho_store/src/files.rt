@@ -12,8 +12,9 @@ use sqlite::{Alter, Connection, Transaction};
 use std::alloc::Global;
 use tacho_reading::fault::store_fault;
 use tacho_reading::finding::driver_with;
+use tacho_reading::read_within;
 use tacho_state::{FileSummary, StoreFault, content_of, file_summary, part_of};
-use tacho_tables::{StoredFile, downloads, opening};
+use tacho_tables::{StoredFile, downloads};
 
 /// Returns the fault of a reading that meets a stored card file with this fault. Out of memory stays; any other fault is a store failure.
 fn fault_of_stored(fault: StoreFault) -> StoreFault
@@ -93,13 +94,5 @@ pub fn files<S: Alter>(
     ensures autocommit { conn.new.in_transaction ≡ false }
     ensures reads { ReadsOn S.Store (λ files. map told_file files.items) conn.old conn.new result (files_reading driver) }
 {
-    // For the proof alone: nothing is pending, so what is seen is what was committed.
-    let _settled = conn.is_autocommit();
-    let mut tx = conn.transaction();
-    let found = files_in(alloc, &mut tx, driver);
-    tx.rollback();
-    match opening::ask(conn) {
-        Ok(()) => found,
-        Err(fault) => Err(store_fault(fault)),
-    }
+    read_within!(conn, tx, files_in(alloc, &mut tx, driver))
 }

@@ -18,12 +18,13 @@ use crate::news::{News, news_of};
 use sqlite::{Alter, Connection, Transaction};
 use std::alloc::Global;
 use tacho_card::Part;
+use tacho_reading::act_within;
 use tacho_reading::fault::store_fault;
 use tacho_reading::finding::driver_with;
 use tacho_reading::near::rows_near;
 use tacho_reading::spans::{line_of_stored, range_of, stored};
 use tacho_state::{Caller, CardContent, Imported, StoreFault, first_number, number_of_part};
-use tacho_tables::{SpanTable, StoredSpan, TableFault, downloads, drivers, opening, spans};
+use tacho_tables::{SpanTable, StoredSpan, TableFault, downloads, drivers, spans};
 use tacho_time::Span;
 
 /// The driver to whom an import belongs, and the count of their downloads.
@@ -230,24 +231,9 @@ pub fn import<S: Alter>(
         → result ≡ Ok (Repeated number) → IsSame (state S.Store conn.old) (state S.Store conn.new) }
     ensures of_no_file { IsOfNoFile result }
 {
-    // For the proof alone: nothing is pending, so what is seen is what was committed.
-    let _settled = conn.is_autocommit();
-    let mut tx = conn.transaction();
-    match import_in(alloc, &mut tx, caller, part, file, content) {
-        Ok(done) => match tx.commit() {
-            Ok(()) => Ok(done),
-            Err(_) => {
-                // For the proof alone: the commit that failed left nothing pending.
-                let _undone = conn.is_autocommit();
-                Err(StoreFault::Store)
-            }
-        },
-        Err(fault) => {
-            tx.rollback();
-            match opening::ask(conn) {
-                Ok(()) => Err(fault),
-                Err(failed) => Err(store_fault(failed)),
-            }
-        }
-    }
+    act_within!(
+        conn,
+        tx,
+        import_in(alloc, &mut tx, caller, part, file, content)
+    )
 }

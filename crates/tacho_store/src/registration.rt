@@ -6,9 +6,10 @@ ghost use Rattle.tacho_reading.specs.Kept.{ActsOn};
 ghost use Rattle.tacho_store.specs.Registering.{IsAskedFree};
 
 use sqlite::{Alter, Connection, Transaction};
+use tacho_reading::act_within;
 use tacho_reading::fault::store_fault;
 use tacho_state::{Driver, StoreFault, is_monday};
-use tacho_tables::{drivers, opening};
+use tacho_tables::drivers;
 
 /// Checks that nobody has a new driver's number, key or holder: S1, S2, S3.
 #[tactic(auto, unfolding(crate::specs::Registering::IsAskedFree))]
@@ -60,24 +61,5 @@ pub fn register<S: Alter>(conn: &mut Connection<S>, driver: &Driver) -> Result<(
     ensures acts { ActsOn S.Store (λ _. tt) conn.old conn.new result
         (register_step driver.now.number driver.now.holder driver.now.key driver.now.base driver.now.name) }
 {
-    // For the proof alone: nothing is pending, so what is seen is what was committed.
-    let _settled = conn.is_autocommit();
-    let mut tx = conn.transaction();
-    match register_in(&mut tx, driver) {
-        Ok(()) => match tx.commit() {
-            Ok(()) => Ok(()),
-            Err(_) => {
-                // For the proof alone: the commit that failed left nothing pending.
-                let _undone = conn.is_autocommit();
-                Err(StoreFault::Store)
-            }
-        },
-        Err(fault) => {
-            tx.rollback();
-            match opening::ask(conn) {
-                Ok(()) => Err(fault),
-                Err(failed) => Err(store_fault(failed)),
-            }
-        }
-    }
+    act_within!(conn, tx, register_in(&mut tx, driver))
 }

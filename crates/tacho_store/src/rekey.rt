@@ -7,10 +7,11 @@ ghost use Rattle.tacho_reading.specs.Kept.{ActsOn};
 ghost use Rattle.tacho_store.specs.Rekeying.{IsAskedKey};
 
 use sqlite::{Alter, Connection, Transaction};
+use tacho_reading::act_within;
 use tacho_reading::fault::store_fault;
 use tacho_reading::finding::driver_with;
 use tacho_state::StoreFault;
-use tacho_tables::{drivers, opening};
+use tacho_tables::drivers;
 
 /// True if the number of a key's owner, if there is one, isn't this driver's.
 fn is_of_another(owner: Option<u32>, driver: u32) -> bool
@@ -51,24 +52,5 @@ pub fn rekey<S: Alter>(conn: &mut Connection<S>, driver: u32, key: &str) -> Resu
     ensures of_no_file { IsOfNoFile result }
     ensures acts { ActsOn S.Store (λ _. tt) conn.old conn.new result (rekey_step driver key.now) }
 {
-    // For the proof alone: nothing is pending, so what is seen is what was committed.
-    let _settled = conn.is_autocommit();
-    let mut tx = conn.transaction();
-    match rekey_in(&mut tx, driver, key) {
-        Ok(()) => match tx.commit() {
-            Ok(()) => Ok(()),
-            Err(_) => {
-                // For the proof alone: the commit that failed left nothing pending.
-                let _undone = conn.is_autocommit();
-                Err(StoreFault::Store)
-            }
-        },
-        Err(fault) => {
-            tx.rollback();
-            match opening::ask(conn) {
-                Ok(()) => Err(fault),
-                Err(failed) => Err(store_fault(failed)),
-            }
-        }
-    }
+    act_within!(conn, tx, rekey_in(&mut tx, driver, key))
 }

@@ -16,12 +16,13 @@ ghost use Rattle.tacho_store.specs.Withdrawing.{IsEntry, AreRowsFor, HaveNoRows,
 
 use sqlite::{Alter, Connection, Transaction};
 use std::alloc::Global;
+use tacho_reading::act_within;
 use tacho_reading::fault::store_fault;
 use tacho_reading::finding::driver_with;
 use tacho_reading::near::{first_start, rows_near};
 use tacho_reading::spans::{fault_of_rows, minute_of, spans_of, stored};
 use tacho_state::{StoreFault, inside_of, outside_of};
-use tacho_tables::{SpanTable, StoredEntry, StoredSpan, TableFault, entries, held, opening, spans};
+use tacho_tables::{SpanTable, StoredEntry, StoredSpan, TableFault, entries, held, spans};
 use tacho_time::{Minute, Span};
 
 /// Finds a driver's entry that is not withdrawn: S4, S7, S8.
@@ -210,24 +211,5 @@ pub fn withdraw<S: Alter>(
     ensures of_no_file { IsOfNoFile result }
     ensures acts { ActsOn S.Store (λ _. tt) conn.old conn.new result (withdraw_range_step driver first last) }
 {
-    // For the proof alone: nothing is pending, so what is seen is what was committed.
-    let _settled = conn.is_autocommit();
-    let mut tx = conn.transaction();
-    match withdraw_in(alloc, &mut tx, driver, first, last) {
-        Ok(()) => match tx.commit() {
-            Ok(()) => Ok(()),
-            Err(_) => {
-                // For the proof alone: the commit that failed left nothing pending.
-                let _undone = conn.is_autocommit();
-                Err(StoreFault::Store)
-            }
-        },
-        Err(fault) => {
-            tx.rollback();
-            match opening::ask(conn) {
-                Ok(()) => Err(fault),
-                Err(failed) => Err(store_fault(failed)),
-            }
-        }
-    }
+    act_within!(conn, tx, withdraw_in(alloc, &mut tx, driver, first, last))
 }

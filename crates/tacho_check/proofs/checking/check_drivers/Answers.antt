@@ -4,14 +4,14 @@ use Rattle.sqlite.specs.State.{HasCleanDisk}
 use Rattle.tacho_check.proofs.CheckLemmas.{if_so}
 use Rattle.tacho_check.proofs.checking.check_drivers.Goals as goal
 
-pub returns-in-Ok-clause-checks : goal.returns-in-Ok-clause-checks
-returns-in-Ok-clause-checks g c = record {
+pub returns-in-Ok-read_within-clause-checks : goal.returns-in-Ok-read_within-clause-checks
+returns-in-Ok-read_within-clause-checks g c = record {
   clean = search rules;
   was_open = search rules;
   live = search rules;
   same = search rules;
   survives = search rules;
-  found = λ clean is. if_so c.checked_in-found.result _ _ (λ ready.
-      let before : HasCleanDisk (state g.S.Store c.checked_in-found.new.tx.conn.now) = search rules in
-      (rw c.transaction-tx.ensures.begun at c.checked_in-found.ensures.asks.found before) is ready);
+  found = λ clean is. if_so c.checked_in.result _ _ (λ ready.
+      let before : HasCleanDisk (state g.S.Store c.checked_in.new.tx.conn.now) = search rules in
+      (rw c.read_within-transaction.ensures.begun at c.checked_in.ensures.asks.found before) is ready);
 }

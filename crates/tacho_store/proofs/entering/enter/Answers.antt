@@ -2,8 +2,8 @@ use Rattle.std.proofs.Common.{rules}
 use Rattle.tacho_store.proofs.StepsLemmas.{undone_keeps}
 use Rattle.tacho_store.proofs.entering.enter.Goals as goal
 
-pub returns-in-Err-ask-clause-acts : goal.returns-in-Err-ask-clause-acts
-returns-in-Err-ask-clause-acts g c = record {
+pub returns-in-Err-act_within-act_within-2-clause-acts : goal.returns-in-Err-act_within-act_within-2-clause-acts
+returns-in-Err-act_within-act_within-2-clause-acts g c = record {
   clean = search rules;
   answer = search rules;
   state = search rules;

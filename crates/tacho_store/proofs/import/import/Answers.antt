@@ -2,8 +2,8 @@ use Rattle.std.proofs.Common.{rules}
 use Rattle.tacho_store.proofs.StepsLemmas.{undone_keeps}
 use Rattle.tacho_store.proofs.import.import.Goals as goal
 
-pub returns-in-Ok-commit-clause-acts : goal.returns-in-Ok-commit-clause-acts
-returns-in-Ok-commit-clause-acts g c = record {
+pub returns-in-Ok-act_within-act_within-clause-acts : goal.returns-in-Ok-act_within-act_within-clause-acts
+returns-in-Ok-act_within-act_within-clause-acts g c = record {
   clean = search rules;
   answer = search rules;
   state = search rules;
@@ -18,8 +18,8 @@ returns-in-Ok-commit-clause-acts g c = record {
   kept = search rules;
 }
 
-pub returns-in-Ok-ask-clause-acts : goal.returns-in-Ok-ask-clause-acts
-returns-in-Ok-ask-clause-acts g c = record {
+pub returns-in-Ok-act_within-act_within-2-clause-acts : goal.returns-in-Ok-act_within-act_within-2-clause-acts
+returns-in-Ok-act_within-act_within-2-clause-acts g c = record {
   clean = search rules;
   answer = search rules;
   state = search rules;
@@ -34,8 +34,8 @@ returns-in-Ok-ask-clause-acts g c = record {
   kept = search rules;
 }
 
-pub returns-in-Err-ask-clause-acts : goal.returns-in-Err-ask-clause-acts
-returns-in-Err-ask-clause-acts g c = record {
+pub returns-in-Err-act_within-act_within-2-clause-acts : goal.returns-in-Err-act_within-act_within-2-clause-acts
+returns-in-Err-act_within-act_within-2-clause-acts g c = record {
   clean = search rules;
   answer = search rules;
   state = search rules;
