@@ -3,10 +3,10 @@
 ghost use Rattle.tacho_check.specs.Ask.{Asks, Show, three_shown, five_shown};
 ghost use Rattle.tacho_check.specs.Member.{own_in};
 
-use crate::statement::read;
 use crate::table::TableName;
 use sqlite::{Alter, Row, Transaction, params};
 use tacho_tables::TableFault;
+use tacho_tables::statement::read;
 
 /// Reads number, part and file of a driver's downloads.
 pub fn file_rows<S: Alter>(tx: &mut Transaction<'_, S>, driver: i64) -> Result<Vec<Row>, TableFault>

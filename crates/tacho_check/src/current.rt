@@ -8,10 +8,10 @@ ghost use Rattle.tacho_tables.specs.Tables.{IsVersion, HasNoOldEntries};
 ghost use Rattle.tacho_check.specs.Checked.{Checks};
 ghost use Rattle.tacho_check.specs.Current.{Learns, AreFirst, has_old_table, meta_shown, old_entry_shown, current_shown};
 
-use crate::statement::read;
 use sqlite::{Alter, Connection, Row, Transaction};
 use tacho_reading::fault::store_fault;
 use tacho_state::StoreFault;
+use tacho_tables::statement::read;
 use tacho_tables::{TableFault, opening};
 
 /// Reads id and version of `meta`. Two rows are enough to know whether there is one.

@@ -15,7 +15,6 @@ pub mod numbers;
 pub mod own;
 pub mod parsing;
 pub mod registered;
-mod statement;
 mod table;
 mod text;
 pub mod wide;

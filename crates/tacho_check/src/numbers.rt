@@ -5,10 +5,10 @@ ghost use Rattle.tacho_tables.specs.Schema.{driver_rows};
 ghost use Rattle.tacho_check.specs.Ask.{Asks, Show};
 ghost use Rattle.tacho_check.specs.Numbers.{number_shown, number_row, AreAllNumbers};
 
-use crate::statement::read;
 use sqlite::{Alter, Row, Transaction};
 use std::alloc::Global;
 use tacho_tables::TableFault;
+use tacho_tables::statement::read;
 
 /// Reads the number of each row of `drivers`.
 fn number_rows<S: Alter>(tx: &mut Transaction<'_, S>) -> Result<Vec<Row>, TableFault>

@@ -8,10 +8,10 @@ ghost use Rattle.tacho_check.specs.Registered.{driver_shown, AreDriverParts, Are
 
 use crate::judgement::Counts;
 use crate::parsing::natural;
-use crate::statement::read;
 use crate::table::TableName;
 use sqlite::{Alter, Row, Transaction, params};
 use tacho_tables::TableFault;
+use tacho_tables::statement::read;
 
 /// Whether a driver has a row in `drivers`, and what it counts. `Unfit` says that their rows there aren't those of a state.
 #[derive(Clone, Copy)]

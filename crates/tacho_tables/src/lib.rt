@@ -11,7 +11,7 @@ pub mod making;
 pub mod opening;
 mod rows;
 pub mod spans;
-mod statement;
+pub mod statement;
 
 pub use fault::TableFault;
 pub use rows::{StoredDriver, StoredEntry, StoredFile, StoredSpan, next_span};
