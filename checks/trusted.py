@@ -63,7 +63,8 @@ DATABASE = Order(
          "tacho_state: Acts; tacho_reading: Kept; tacho_state: Runs"),
         ("how an archive is made, found again and migrated from schema 1; the tables after a command",
          "tacho_store: Opening Old After"),
-        ("what a check of the tables finds, and the line that is printed of it", "tacho_check: Check Checked Text"),
+        ("what a check of the tables finds, and the line that is printed of it",
+         "tacho_tables: Readable; tacho_check: Check Checked Text"),
     ),
 )
 

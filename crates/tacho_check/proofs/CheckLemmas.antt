@@ -16,13 +16,14 @@ use Rattle.sqlite_rules.proofs.ProbeLemmas.{mapped_has}
 use Rattle.tacho_time.proofs.CanonicalLemmas.{lt_or_le}
 use Rattle.tacho_tables.specs.Schema.{Layout}
 use Rattle.tacho_tables.specs.Schema as made
-use Rattle.tacho_check.specs.declared.table.TableName.{TableName}
-use Rattle.tacho_check.specs.declared.table.TableName.TheVariants.{Held}
-use Rattle.tacho_check.specs.Check.{is_number, is_own, own_rows, IsReadable, IsSoundAt}
+use Rattle.tacho_tables.specs.declared.table.TableName.{TableName}
+use Rattle.tacho_tables.specs.declared.table.TableName.TheVariants.{Held}
+use Rattle.tacho_tables.specs.Readable.{is_number, is_own, own_rows, IsReadable}
+use Rattle.tacho_tables.specs.Ask.{own_in, number_shown}
+use Rattle.tacho_check.specs.Check.{IsSoundAt}
 use Rattle.tacho_check.specs.Checked.{IsChecked, AreSoundIn}
 use Rattle.tacho_check.specs.Judged.{IsJudged}
-use Rattle.tacho_check.specs.Member.{own_in}
-use Rattle.tacho_check.specs.Numbers.{number_shown, number_row, AreAllNumbers}
+use Rattle.tacho_check.specs.Numbers.{number_row, AreAllNumbers}
 use Rattle.tacho_check.proofs.OwnLemmas.{own_sound, sound_own}
 use Rattle.tacho_check.proofs.ParentLemmas.{none_anywhere}
 use Rattle.tacho_check.proofs.SpreadLemmas.{has_unmapped}

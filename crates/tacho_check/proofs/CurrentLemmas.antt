@@ -15,7 +15,8 @@ use Rattle.sqlite_trees.specs.Tree.{Trees}
 use Rattle.tacho_tables.specs.Schema.{Layout, Made, Carried, archive_schema}
 use Rattle.tacho_tables.specs.Schema as tree
 use Rattle.tacho_tables.specs.Tables.{IsVersion, HasNoOldEntries}
-use Rattle.tacho_check.specs.Current.{AreFirst, meta_shown, old_entry_shown, current_shown}
+use Rattle.tacho_tables.specs.Ask.{AreFirst, meta_shown, old_entry_shown}
+use Rattle.tacho_check.specs.Current.{current_shown}
 use Rattle.tacho_check.proofs.OwnLemmas.{none_moved}
 use Rattle.tacho_check.proofs.SpreadLemmas.{single}
 use Rattle.tacho_check.proofs.TypeLemmas.{null_of, row_typed}

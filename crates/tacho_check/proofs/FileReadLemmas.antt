@@ -10,17 +10,17 @@ use Rattle.sqlite_value.specs.Order.{Row, column}
 use Rattle.sqlite_trees.proofs.ListLemmas.{map-map}
 use Rattle.tacho_tables.specs.Schema as made
 use Rattle.tacho_tables.specs.Rows.{DownloadRow, download_columns}
+use Rattle.tacho_tables.specs.Readable.{own_rows}
+use Rattle.tacho_tables.specs.Ask.{three_shown, Show}
+use Rattle.tacho_tables.proofs.UniqueLemmas.{HasDriver}
 use Rattle.tacho_reading.specs.Standing.{rows_of_downloads}
 use Rattle.tacho_check.specs.declared.files.FileRow.{FileRow}
-use Rattle.tacho_check.specs.Check.{own_rows}
-use Rattle.tacho_check.specs.Ask.{three_shown, Show}
 use Rattle.tacho_check.specs.Parsed.{file_shown}
 use Rattle.tacho_check.specs.Typed.{file_row}
 use Rattle.tacho_check.specs.Judged.{AreFilesRead}
 use Rattle.tacho_check.specs.Own.{shown_of_file, AreFilesInOrder}
 use Rattle.tacho_check.proofs.ParsedLemmas.{parsed, unparsed}
 use Rattle.tacho_check.proofs.ReadLemmas.{HasTypes, IsOwnRow, four_columns, own_rows_are}
-use Rattle.tacho_check.proofs.UniqueLemmas.{HasDriver}
 
 -- a row that shows a card file is the card file's
 file_made : (n : ℕ) (w : Row) → IsOwnRow n made.downloads.columns w → (f : FileRow) → three_shown w ≡ shown_of_file f

@@ -12,9 +12,9 @@ use Rattle.tacho_state.specs.Disjoint.{Keeps}
 use Rattle.tacho_state.proofs.DisjointLemmas.{disjoint_canonical, disjoint_agrees}
 use Rattle.tacho_tables.specs.Rows.{DriverRow, driver_row, span_columns, download_columns, entry_columns}
 use Rattle.tacho_state.specs.Content.{AreRead}
+use Rattle.tacho_tables.specs.declared.table.TableName.{TableName}
+use Rattle.tacho_tables.specs.declared.table.TableName.TheVariants.{Drivers, Downloads, CardSpans, EntryRows, Held}
 use Rattle.tacho_reading.specs.Standing.{driver_columns, rows_of_downloads, rows_of_entries, span_row}
-use Rattle.tacho_check.specs.declared.table.TableName.{TableName}
-use Rattle.tacho_check.specs.declared.table.TableName.TheVariants.{Drivers, Downloads, CardSpans, EntryRows, Held}
 use Rattle.tacho_check.specs.Check.{place}
 use Rattle.tacho_check.specs.Member.{Member, member_rows, HasMember}
 use Rattle.tacho_check.specs.Fits.{Agrees, DownloadsFit, CardsFit, EntriesFit, HeldFits}

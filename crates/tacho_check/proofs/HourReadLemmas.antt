@@ -16,10 +16,11 @@ use Rattle.sqlite_trees.proofs.ListLemmas.{pull_back, all-permutation}
 use Rattle.sqlite_rules.proofs.ListLemmas.{all_from, has_filtered}
 use Rattle.tacho_tables.specs.Schema as made
 use Rattle.tacho_tables.specs.Rows.{EntryRow, entry_columns}
+use Rattle.tacho_tables.specs.Readable.{is_number, is_own, own_rows}
+use Rattle.tacho_tables.specs.Ask.{five_shown, Show}
+use Rattle.tacho_tables.proofs.UniqueLemmas.{HasDriver}
 use Rattle.tacho_reading.specs.Standing.{rows_of_entries}
 use Rattle.tacho_check.specs.declared.hours.HoursRow.{HoursRow}
-use Rattle.tacho_check.specs.Check.{is_number, is_own, own_rows}
-use Rattle.tacho_check.specs.Ask.{five_shown, Show}
 use Rattle.tacho_check.specs.Parsed.{hours_shown}
 use Rattle.tacho_check.specs.Typed.{hours_of}
 use Rattle.tacho_check.specs.Judged.{AreHoursRead}
@@ -28,7 +29,6 @@ use Rattle.tacho_check.proofs.ParsedLemmas.{unparsed}
 use Rattle.tacho_check.proofs.ReadLemmas.{HasTypes, int_is}
 use Rattle.tacho_check.proofs.SpreadLemmas.{has_unmapped}
 use Rattle.tacho_check.proofs.TypeLemmas.{HasPresent, text_of, typed_length, typed_column, visible_present, long_enough}
-use Rattle.tacho_check.proofs.UniqueLemmas.{HasDriver}
 
 -- what is known of a driver's row of entries
 record IsOwnEntry (n : ℕ) (w : Row) : Type 0 where

@@ -7,12 +7,12 @@ use Rattle.tacho_time.specs.declared.span.Span.{Span}
 use Rattle.tacho_time.specs.Spans.{Gives}
 use Rattle.tacho_state.specs.State.{Download, Entry, given_spans, entered_spans}
 use Rattle.tacho_tables.specs.Rows.{DriverRow}
+use Rattle.tacho_tables.specs.declared.table.TableName.{TableName}
+use Rattle.tacho_tables.specs.declared.table.TableName.TheVariants.{Drivers, Downloads, CardSpans, EntryRows, Held}
 use Rattle.tacho_check.specs.declared.files.FileRow.{FileRow}
 use Rattle.tacho_check.specs.declared.hours.HoursRow.{HoursRow}
 use Rattle.tacho_check.specs.declared.wide.Wide.{Wide}
 use Rattle.tacho_check.specs.declared.judgement.Counts.{Counts}
-use Rattle.tacho_check.specs.declared.table.TableName.{TableName}
-use Rattle.tacho_check.specs.declared.table.TableName.TheVariants.{Drivers, Downloads, CardSpans, EntryRows, Held}
 use Rattle.tacho_check.specs.Check.{place}
 use Rattle.tacho_check.specs.Member.{HasMember, IsOwnSound}
 use Rattle.tacho_check.specs.Wide.{wide_spans}

@@ -12,12 +12,11 @@ use Rattle.sqlite_rules.specs.Lists.{Has}
 use Rattle.sqlite_rules.proofs.ListLemmas.{has_filtered}
 use Rattle.tacho_tables.specs.Schema.{Layout}
 use Rattle.tacho_tables.specs.Rows.{DriverRow, driver_row}
-use Rattle.tacho_check.specs.declared.table.TableName.{TableName}
-use Rattle.tacho_check.specs.declared.table.TableName.TheVariants.{Drivers}
-use Rattle.tacho_check.specs.Ask.{Show}
-use Rattle.tacho_check.specs.Check.{is_own, stored_rows}
+use Rattle.tacho_tables.specs.declared.table.TableName.{TableName}
+use Rattle.tacho_tables.specs.declared.table.TableName.TheVariants.{Drivers}
+use Rattle.tacho_tables.specs.Ask.{Show, own_in}
+use Rattle.tacho_tables.specs.Readable.{is_own, stored_rows}
 use Rattle.tacho_check.specs.Judged.{HasRows}
-use Rattle.tacho_check.specs.Member.{own_in}
 use Rattle.tacho_check.proofs.OwnLemmas.{none_moved}
 
 -- a driver's row has the driver's number

@@ -1,5 +1,5 @@
 -- Readings of an archive, one after the other, and within a transaction of their own.
-use Rattle.std.proofs.Common.{◌≡◌, ◌∙◌, true, false, true≢false, Result, Ok, Err, IfOk, OnOk, IsErr, IsTrue, refl, sym, ap, subst}
+use Rattle.std.proofs.Common.{◌≡◌, ◌∙◌, false, true≢false, Result, Ok, Err, IfOk, OnOk, IsErr, refl, sym, ap, subst}
 use Rattle.std.specs.Borrow.{MutBor}
 use Rattle.std.proofs.lemmas.Result.{IfOk-weaker}
 use Rattle.sqlite.specs.Effect.{Database}
@@ -14,7 +14,7 @@ use Rattle.tacho_tables.specs.Schema.{Layout, Made, Carried, archive_schema, has
 use Rattle.tacho_tables.specs.Tables.{IsArchive}
 use Rattle.tacho_tables.proofs.CallLemmas.{stays_then, any_ok}
 use Rattle.tacho_tables.proofs.Inside.{keeps_then}
-use Rattle.tacho_check.specs.Current.{Learns, has_old_table}
+use Rattle.tacho_tables.specs.Ask.{Learns, has_old_table}
 
 -- of a result that is an error, any fact holds for the value
 no_ok : {A E : Type 0} (r : Result A E) (P : Type 0) → IsErr r → OnOk r P
@@ -105,20 +105,11 @@ module _ {S : Type 0} {g : Ghosts S} {a b c : MutBor (Held S)} {A B E F : Type 0
 
 -- ---- the table of schema 1
 
--- an archive that has it was migrated
-migrated : (layout : Layout) → has_tables old_names (archive_schema layout) ≡ true → layout ≡ Carried
-unfolding everything
-migrated Made has = absurd (true≢false (sym has))
-migrated Carried has = refl
-
 -- an archive that hasn't was made as it is
 made : (layout : Layout) → has_tables old_names (archive_schema layout) ≡ false → layout ≡ Made
 unfolding everything
 made Made none = refl
 made Carried none = absurd (true≢false none)
-
-pub is_migrated : (s : State) (is : IsArchive s.now) → IsTrue (has_old_table s) → is.layout ≡ Carried
-is_migrated s is has = migrated is.layout (subst (λ x. has_tables old_names x ≡ true) is.schema has)
 
 pub is_made : (s : State) (is : IsArchive s.now) → has_old_table s ≡ false → is.layout ≡ Made
 is_made s is none = made is.layout (subst (λ x. has_tables old_names x ≡ false) is.schema none)

@@ -4,7 +4,6 @@ mod KeepLemmas
 mod FileLemmas
 mod MemberLemmas
 mod OwnLemmas
-mod UniqueLemmas
 mod OrderedLemmas
 mod SpreadLemmas
 mod StateLemmas
@@ -16,7 +15,6 @@ mod HoursLemmas
 mod AgreedLemmas
 mod JudgeLemmas
 mod AbsentLemmas
-mod AskLemmas
 mod ParsedLemmas
 mod ReadLemmas
 mod OwnReadLemmas
@@ -26,11 +24,9 @@ mod TypeLemmas
 mod FileReadLemmas
 mod HourReadLemmas
 mod RegisteredLemmas
-mod CurrentAskLemmas
 mod CurrentLemmas
 mod LearnLemmas
 mod AloneLemmas
-mod DriverAskLemmas
 mod JudgingLemmas
 mod ThenLemmas
 mod NumberLemmas

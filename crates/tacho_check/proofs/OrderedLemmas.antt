@@ -20,8 +20,8 @@ use Rattle.sqlite_catalog.specs.Listing.{IsSound}
 use Rattle.sqlite_catalog.proofs.LayoutLemmas.{table_shape}
 use Rattle.tacho_tables.specs.Schema.{Layout, archive_schema, entry_tree}
 use Rattle.tacho_tables.specs.Schema as made
-use Rattle.tacho_check.specs.Check.{AreNumbered, AreAllNumbered}
-use Rattle.tacho_check.proofs.UniqueLemmas.{drivers_at, downloads_at, card_spans_at, entries_at, entry_place, held_at}
+use Rattle.tacho_tables.specs.Readable.{AreNumbered, AreAllNumbered}
+use Rattle.tacho_tables.proofs.UniqueLemmas.{drivers_at, downloads_at, card_spans_at, entries_at, entry_place, held_at}
 
 -- ---- rows in order
 

@@ -19,13 +19,15 @@ use Rattle.tacho_tables.specs.Rows.{SpanRow, DownloadRow, EntryRow, DriverRow, s
 use Rattle.tacho_tables.specs.Tables.{Tables, has_number}
 use Rattle.tacho_reading.specs.Standing.{row_span, span_row, spans_of, driver_columns, RowsRepresent, TablesRepresent}
 use Rattle.tacho_state.specs.Numbers.{IsMark}
+use Rattle.tacho_tables.specs.declared.table.TableName.{TableName}
+use Rattle.tacho_tables.specs.declared.table.TableName.TheVariants.{Drivers, Downloads, CardSpans, EntryRows, Held}
+use Rattle.tacho_tables.specs.Readable.{is_number, is_own, own_rows, stored_rows}
+use Rattle.tacho_tables.specs.Ask.{own_in}
 use Rattle.tacho_state.proofs.PutLemmas.{found_number}
 use Rattle.tacho_reading.proofs.StateLemmas.{found_of}
 use Rattle.tacho_reading.proofs.DriverRowLemmas.{no_number_row}
-use Rattle.tacho_check.specs.declared.table.TableName.{TableName}
-use Rattle.tacho_check.specs.declared.table.TableName.TheVariants.{Drivers, Downloads, CardSpans, EntryRows, Held}
-use Rattle.tacho_check.specs.Check.{place, is_number, is_own, own_rows, stored_rows, typed_rows, Agree, IsSoundAt}
-use Rattle.tacho_check.specs.Member.{Member, IsWhole, downloads_in, cards_in, entries_in, held_in, member_rows, state_of, tables_of, own_in, HasNoRows, IsOwnSound}
+use Rattle.tacho_check.specs.Check.{place, typed_rows, Agree, IsSoundAt}
+use Rattle.tacho_check.specs.Member.{Member, IsWhole, downloads_in, cards_in, entries_in, held_in, member_rows, state_of, tables_of, HasNoRows, IsOwnSound}
 use Rattle.tacho_check.proofs.MemberLemmas.{pass_all, one_of, downloads_own, entries_own, spans_own, members_represent}
 
 -- ---- the driver's number in a row

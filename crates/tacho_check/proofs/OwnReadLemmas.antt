@@ -16,8 +16,8 @@ use Rattle.sqlite_rules.proofs.ListLemmas.{all_has, has_got}
 use Rattle.tacho_tables.specs.Schema.{Layout, Made, Carried, archive_schema}
 use Rattle.tacho_tables.specs.Schema as made
 use Rattle.tacho_tables.proofs.CallLemmas.{any_ok}
-use Rattle.tacho_check.specs.Check.{IsReadable}
-use Rattle.tacho_check.specs.Ask.{Asks}
+use Rattle.tacho_tables.specs.Readable.{IsReadable}
+use Rattle.tacho_tables.specs.Ask.{Asks}
 use Rattle.tacho_check.proofs.ReadLemmas.{HasTypes}
 
 -- of a result that is an error, any fact holds for the value

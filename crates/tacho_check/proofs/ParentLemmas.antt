@@ -21,13 +21,13 @@ use Rattle.sqlite_trees.specs.Tree.{Trees}
 use Rattle.sqlite_trees.proofs.ListLemmas.{filter_none}
 use Rattle.tacho_tables.specs.Schema.{Layout, Made, Carried, archive_schema, entry_tree}
 use Rattle.tacho_tables.specs.Schema as made
-use Rattle.tacho_check.specs.declared.table.TableName.{TableName}
-use Rattle.tacho_check.specs.declared.table.TableName.TheVariants.{Drivers, Downloads, CardSpans, EntryRows, Held}
-use Rattle.tacho_check.specs.Check.{is_number, is_own, own_rows, stored_rows, AreNumbered}
-use Rattle.tacho_check.proofs.AskLemmas.{int_test}
+use Rattle.tacho_tables.specs.declared.table.TableName.{TableName}
+use Rattle.tacho_tables.specs.declared.table.TableName.TheVariants.{Drivers, Downloads, CardSpans, EntryRows, Held}
+use Rattle.tacho_tables.specs.Readable.{is_number, is_own, own_rows, stored_rows, AreNumbered}
+use Rattle.tacho_tables.proofs.AskLemmas.{int_test}
+use Rattle.tacho_tables.proofs.UniqueLemmas.{HasDriver, rows_pass, downloads_at, card_spans_at, held_at, entry_place, entries_at, downloads_have, card_spans_have, entries_have, held_have}
 use Rattle.tacho_check.proofs.SpreadLemmas.{has_unmapped}
 use Rattle.tacho_check.proofs.TypeLemmas.{column_after}
-use Rattle.tacho_check.proofs.UniqueLemmas.{HasDriver, rows_pass, downloads_at, card_spans_at, held_at, entry_place, entries_at, downloads_have, card_spans_have, entries_have, held_have}
 
 -- the reference leads to the number of a row of `drivers`
 key_is : (layout : Layout) → parent_key (archive_schema layout).tables made.to_driver ≡ Some (1, 0 ∷ [], plain)

@@ -17,16 +17,16 @@ use Rattle.sqlite_rules.proofs.ListLemmas.{all_from, has_filtered}
 use Rattle.tacho_time.specs.declared.span.Span.{Span}
 use Rattle.tacho_tables.specs.Schema as made
 use Rattle.tacho_tables.specs.Rows.{span_columns}
+use Rattle.tacho_tables.specs.Readable.{is_number, is_own, own_rows}
+use Rattle.tacho_tables.specs.Ask.{three_shown, Show}
+use Rattle.tacho_tables.proofs.UniqueLemmas.{HasDriver}
 use Rattle.tacho_reading.specs.Standing.{span_row}
 use Rattle.tacho_check.specs.declared.wide.Wide.{Wide}
 use Rattle.tacho_check.specs.Wide.{wide_spans}
-use Rattle.tacho_check.specs.Check.{is_number, is_own, own_rows}
-use Rattle.tacho_check.specs.Ask.{three_shown, Show}
 use Rattle.tacho_check.specs.Parsed.{span_shown, AreSpansOf}
 use Rattle.tacho_check.specs.Judged.{AreSpansRead}
 use Rattle.tacho_check.proofs.SpreadLemmas.{has_unmapped}
 use Rattle.tacho_check.proofs.ParsedLemmas.{parsed, unparsed}
-use Rattle.tacho_check.proofs.UniqueLemmas.{HasDriver}
 
 -- the stored columns of a table have the types of its schema
 abbrev pub HasTypes : List Column → List Row → Type 0

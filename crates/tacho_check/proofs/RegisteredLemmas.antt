@@ -18,13 +18,13 @@ use Rattle.sqlite_rules.proofs.ListLemmas.{all_from, has_filtered}
 use Rattle.tacho_tables.specs.Schema.{Layout, archive_schema}
 use Rattle.tacho_tables.specs.Schema as made
 use Rattle.tacho_tables.specs.Rows.{DriverRow, driver_row}
+use Rattle.tacho_tables.specs.Readable.{is_own, own_rows}
+use Rattle.tacho_tables.specs.Ask.{Show, driver_shown}
 use Rattle.tacho_check.specs.declared.judgement.Counts.{Counts}
 use Rattle.tacho_check.specs.declared.registered.DriverParts.{DriverParts}
 use Rattle.tacho_check.specs.declared.registered.Registered.{Registered}
 use Rattle.tacho_check.specs.declared.registered.Registered.TheVariants.{No, Unfit, Counted}
-use Rattle.tacho_check.specs.Check.{is_own, own_rows}
-use Rattle.tacho_check.specs.Ask.{Show}
-use Rattle.tacho_check.specs.Registered.{driver_shown, four_numbers, AreDriverParts, AreCountsOf, IsShownDriver, IsRegistered}
+use Rattle.tacho_check.specs.Registered.{four_numbers, AreDriverParts, AreCountsOf, IsShownDriver, IsRegistered}
 use Rattle.tacho_check.proofs.OwnLemmas.{none_moved}
 use Rattle.tacho_check.proofs.SpreadLemmas.{single}
 use Rattle.tacho_check.proofs.TypeLemmas.{text_of, blob_of, null_of, drivers_types, drivers_present}

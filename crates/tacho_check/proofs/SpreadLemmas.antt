@@ -14,7 +14,7 @@ use Rattle.sqlite_rules.specs.Lists.{Has}
 use Rattle.sqlite_rules.proofs.ListLemmas.{all_has, has_filtered}
 use Rattle.tacho_tables.specs.Rows.{AreRowsOf}
 use Rattle.tacho_state.specs.Distinct.{HasNot, AreDistinct}
-use Rattle.tacho_check.specs.Check.{is_number, is_own, own_rows, AreNumbered}
+use Rattle.tacho_tables.specs.Readable.{is_number, is_own, own_rows, AreNumbered}
 use Rattle.tacho_check.specs.Member.{Member, state_of}
 
 -- ---- elements

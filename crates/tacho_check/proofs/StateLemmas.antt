@@ -13,16 +13,18 @@ use Rattle.tacho_state.specs.State.{State}
 use Rattle.tacho_tables.specs.Schema.{Layout}
 use Rattle.tacho_tables.specs.Schema as made
 use Rattle.tacho_tables.specs.Rows.{span_columns, download_columns, entry_columns, driver_row}
+use Rattle.tacho_tables.specs.declared.table.TableName.{TableName}
+use Rattle.tacho_tables.specs.declared.table.TableName.TheVariants.{Drivers, Downloads, CardSpans, EntryRows, Held}
+use Rattle.tacho_tables.specs.Readable.{is_number, is_own, own_rows, stored_rows, IsReadable}
+use Rattle.tacho_tables.specs.Ask.{own_in}
+use Rattle.tacho_tables.proofs.UniqueLemmas.{HasDriver, downloads_have, card_spans_have, entries_have, held_have, holders_differ, keys_differ}
 use Rattle.tacho_reading.specs.Standing.{Represents, driver_columns}
-use Rattle.tacho_check.specs.declared.table.TableName.{TableName}
-use Rattle.tacho_check.specs.declared.table.TableName.TheVariants.{Drivers, Downloads, CardSpans, EntryRows, Held}
-use Rattle.tacho_check.specs.Check.{place, is_number, is_own, own_rows, stored_rows, IsSoundAt, IsReadable}
-use Rattle.tacho_check.specs.Member.{Member, IsWhole, downloads_in, cards_in, entries_in, held_in, member_rows, state_of, tables_of, own_in, HasMember, IsOwnSound}
+use Rattle.tacho_check.specs.Check.{place, IsSoundAt}
+use Rattle.tacho_check.specs.Member.{Member, IsWhole, downloads_in, cards_in, entries_in, held_in, member_rows, state_of, tables_of, HasMember, IsOwnSound}
 use Rattle.tacho_check.proofs.WideLemmas.{nil_of}
 use Rattle.tacho_check.proofs.MemberLemmas.{not_there, members_represent}
 use Rattle.tacho_check.proofs.OwnLemmas.{sound_own}
 use Rattle.tacho_check.proofs.SpreadLemmas.{has_unmapped, single, int_self, table_stands}
-use Rattle.tacho_check.proofs.UniqueLemmas.{HasDriver, downloads_have, card_spans_have, entries_have, held_have, holders_differ, keys_differ}
 
 -- ---- members that are distinct
 

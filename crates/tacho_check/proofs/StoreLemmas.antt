@@ -11,8 +11,8 @@ use Rattle.sqlite_catalog.specs.Listing.{IsSound}
 use Rattle.tacho_state.specs.declared.fault.StoreFault.{StoreFault}
 use Rattle.tacho_tables.specs.Schema.{Layout, archive_schema}
 use Rattle.tacho_tables.specs.Tables.{IsArchive}
+use Rattle.tacho_tables.specs.Readable.{AreAllNumbered}
 use Rattle.tacho_check.specs.declared.table.Unsound.{Unsound}
-use Rattle.tacho_check.specs.Check.{AreAllNumbered}
 use Rattle.tacho_check.specs.Checked.{IsChecked, Checks}
 
 -- the same database is an archive of the same layout

@@ -12,8 +12,8 @@ use Rattle.tacho_tables.specs.Schema.{Layout, archive_schema}
 use Rattle.tacho_tables.specs.Tables.{IsArchive}
 use Rattle.tacho_tables.proofs.CallLemmas.{stays_then, any_ok}
 use Rattle.tacho_tables.proofs.Inside.{keeps_then}
-use Rattle.tacho_check.specs.Check.{IsReadable}
-use Rattle.tacho_check.specs.Ask.{Asks}
+use Rattle.tacho_tables.specs.Readable.{IsReadable}
+use Rattle.tacho_tables.specs.Ask.{Asks}
 
 -- of a result that is an error, any fact holds for the value
 no_ok : {A E : Type 0} (r : Result A E) (P : Type 0) → IsErr r → OnOk r P

@@ -7,10 +7,11 @@ use Rattle.tacho_state.specs.State.{State}
 use Rattle.tacho_tables.specs.Schema.{Layout, archive_schema}
 use Rattle.tacho_tables.specs.Tables.{Tables, HasTables}
 use Rattle.tacho_tables.proofs.CatalogLemmas.{one_layout}
+use Rattle.tacho_tables.specs.Readable.{is_own}
+use Rattle.tacho_tables.specs.declared.table.TableName.{TableName}
+use Rattle.tacho_tables.specs.declared.table.TableName.TheVariants.{Drivers, Downloads, CardSpans, EntryRows, Held}
 use Rattle.tacho_reading.specs.Standing.{Represents}
-use Rattle.tacho_check.specs.Check.{is_own, Agree, IsSoundAt, IsFirstUnsound}
-use Rattle.tacho_check.specs.declared.table.TableName.{TableName}
-use Rattle.tacho_check.specs.declared.table.TableName.TheVariants.{Drivers, Downloads, CardSpans, EntryRows, Held}
+use Rattle.tacho_check.specs.Check.{Agree, IsSoundAt, IsFirstUnsound}
 use Rattle.tacho_check.specs.declared.table.Unsound.{Unsound}
 
 -- the stored rows of a driver in a table are those of the typed rows

@@ -9,8 +9,8 @@ use Rattle.tacho_state.specs.declared.fault.StoreFault.{StoreFault}
 use Rattle.tacho_state.specs.State.{State}
 use Rattle.tacho_tables.specs.Schema.{Layout}
 use Rattle.tacho_tables.specs.Tables.{IsArchive}
+use Rattle.tacho_tables.specs.declared.table.TableName.TheVariants.{Held}
 use Rattle.tacho_reading.specs.Standing.{Represents}
-use Rattle.tacho_check.specs.declared.table.TableName.TheVariants.{Held}
 use Rattle.tacho_check.specs.declared.table.Unsound.{Unsound}
 use Rattle.tacho_check.specs.Check.{IsSoundAt, IsFirstUnsound}
 

@@ -7,13 +7,13 @@ use Rattle.tacho_time.specs.Spans.{Gives}
 use Rattle.tacho_state.specs.State.{Download, Entry}
 use Rattle.tacho_state.specs.Disjoint.{Keeps}
 use Rattle.tacho_tables.specs.Rows.{DriverRow, driver_row, span_columns, download_columns, entry_columns}
+use Rattle.tacho_tables.specs.declared.table.TableName.{TableName}
+use Rattle.tacho_tables.specs.declared.table.TableName.TheVariants.{Drivers, Downloads, CardSpans, EntryRows, Held}
 use Rattle.tacho_reading.specs.Standing.{rows_of_downloads, rows_of_entries, span_row}
 use Rattle.tacho_check.specs.declared.files.FileRow.{FileRow}
 use Rattle.tacho_check.specs.declared.hours.HoursRow.{HoursRow}
 use Rattle.tacho_check.specs.declared.wide.Wide.{Wide}
 use Rattle.tacho_check.specs.declared.judgement.Counts.{Counts}
-use Rattle.tacho_check.specs.declared.table.TableName.{TableName}
-use Rattle.tacho_check.specs.declared.table.TableName.TheVariants.{Drivers, Downloads, CardSpans, EntryRows, Held}
 use Rattle.tacho_check.specs.Check.{place}
 use Rattle.tacho_check.specs.Member.{IsOwnSound}
 use Rattle.tacho_check.specs.Wide.{wide_spans}

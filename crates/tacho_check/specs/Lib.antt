@@ -6,7 +6,6 @@ pub mod Member
 pub mod Fits
 pub mod Typed
 pub mod Judged
-pub mod Ask
 pub mod Parsed
 pub mod Own
 pub mod Registered

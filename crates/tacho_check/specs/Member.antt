@@ -1,18 +1,16 @@
 -- Private to tacho_check: Drivers with the spans of their rows, and the tables that these make.
 use Rattle.std.specs.Prelude.{◌≡◌, ℤ, pos, ◌≤◌, ◌⊎◌, List, [], ◌∷◌, map, flat_map, IsPermutation}
 use Rattle.sqlite.specs.Order.{Row}
-use Rattle.sqlite.specs.Tree.{Trees}
 use Rattle.tacho_time.specs.declared.span.Span.{Span}
 use Rattle.tacho_state.specs.State.{Driver, State, IsDownloaded, Held as HoldsPair, AreFull}
 use Rattle.tacho_state.specs.Disjoint.{Keeps}
-use Rattle.tacho_tables.specs.Schema.{Layout}
 use Rattle.tacho_tables.specs.Rows.{SpanRow, DownloadRow, EntryRow, span_columns, download_columns, entry_columns, driver_row}
 use Rattle.tacho_tables.specs.Tables.{Tables}
 use Rattle.tacho_state.specs.Content.{AreRead}
+use Rattle.tacho_tables.specs.declared.table.TableName.{TableName}
+use Rattle.tacho_tables.specs.declared.table.TableName.TheVariants.{Drivers, Downloads, CardSpans, EntryRows, Held}
 use Rattle.tacho_reading.specs.Standing.{driver_columns, rows_of_downloads, rows_of_entries, span_row}
-use Rattle.tacho_check.specs.declared.table.TableName.{TableName}
-use Rattle.tacho_check.specs.declared.table.TableName.TheVariants.{Drivers, Downloads, CardSpans, EntryRows, Held}
-use Rattle.tacho_check.specs.Check.{place, own_rows, stored_rows}
+use Rattle.tacho_check.specs.Check.{place}
 
 -- a driver of a state, and the spans of their rows in `card_spans` and in `held`
 pub record Member : Type 0 where
@@ -60,10 +58,6 @@ tables_of ms = record {
   entries = flat_map entries_in ms;
   held = flat_map held_in ms;
 }
-
--- the stored rows of a driver, table by table
-abbrev pub own_in : Layout → Trees → ℤ → TableName → List Row
-own_in layout db n j = own_rows n (stored_rows layout j db)
 
 -- a driver's rows up to a table are those of a member
 pub record HasMember (rows : TableName → List Row) (n : ℤ) (k : TableName) : Type 0 where

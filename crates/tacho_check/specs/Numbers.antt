@@ -1,15 +1,9 @@
 -- Private to tacho_check: The numbers of all drivers.
-use Rattle.std.specs.Prelude.{ℕ, ℤ, List, [], ◌∷◌, codes, map, IsPermutation, IsSorted}
+use Rattle.std.specs.Prelude.{ℤ, List, [], ◌∷◌, map, IsPermutation, IsSorted}
 use Rattle.std.specs.Ordering.{int_cmp}
 use Rattle.sqlite.specs.declared.types.Value.TheVariants.{Int}
-use Rattle.sqlite.specs.Order.{Row, column}
-
--- the SQL of the reading, and what it shows of a stored row
-abbrev pub numbers_text : List ℕ
-numbers_text = codes "SELECT driver FROM drivers"
-
-abbrev pub number_shown : Row → Row
-number_shown w = column w 0 ∷ []
+use Rattle.sqlite.specs.Order.{Row}
+use Rattle.tacho_tables.specs.Ask.{number_shown}
 
 -- the row that shows a number
 abbrev pub number_row : ℤ → Row

@@ -1,5 +1,5 @@
 -- Private to tacho_check: A driver's row in `drivers`, as it is read.
-use Rattle.std.specs.Prelude.{◌≡◌, ◌≢◌, ℕ, pos, List, [], ◌∷◌, codes, length, Option, None, Some}
+use Rattle.std.specs.Prelude.{◌≡◌, ◌≢◌, ℕ, pos, List, [], ◌∷◌, length, Option, None, Some}
 use Rattle.sqlite.specs.declared.types.Value.TheVariants.{Int}
 use Rattle.sqlite.specs.Order.{Row, column}
 use Rattle.tacho_tables.specs.Rows.{DriverRow, driver_row}
@@ -7,14 +7,6 @@ use Rattle.tacho_check.specs.declared.judgement.Counts.{Counts}
 use Rattle.tacho_check.specs.declared.registered.DriverParts.{DriverParts}
 use Rattle.tacho_check.specs.declared.registered.Registered.{Registered}
 use Rattle.tacho_check.specs.declared.registered.Registered.TheVariants.{No, Unfit, Counted}
-
--- the SQL of the reading
-abbrev pub driver_text : List ℕ
-driver_text = codes "SELECT driver, base, downloads, entries FROM drivers WHERE driver = ?1"
-
--- what it shows of a stored row
-abbrev pub driver_shown : Row → Row
-driver_shown w = column w 0 ∷ column w 4 ∷ column w 6 ∷ column w 7 ∷ []
 
 -- the row that is shown for these numbers
 abbrev pub four_numbers : ℕ → ℕ → ℕ → ℕ → Row

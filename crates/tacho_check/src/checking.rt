@@ -4,10 +4,10 @@ ghost use Rattle.std.specs.Prelude.{◌≡◌, false, IfOk, IfErr, OnOk};
 ghost use Rattle.sqlite.specs.Held.{state};
 ghost use Rattle.sqlite.specs.Tree.{Trees};
 ghost use Rattle.sqlite_trees.specs.View.{IsClean};
-ghost use Rattle.tacho_reading.specs.Kept.{HasGivenUp};
 ghost use Rattle.tacho_tables.specs.Tables.{IsArchive};
-ghost use Rattle.tacho_check.specs.Ask.{Asks};
-ghost use Rattle.tacho_check.specs.Check.{AreAllNumbered, IsReadable};
+ghost use Rattle.tacho_tables.specs.Ask.{Asks};
+ghost use Rattle.tacho_tables.specs.Readable.{AreAllNumbered, IsReadable};
+ghost use Rattle.tacho_reading.specs.Kept.{HasGivenUp};
 ghost use Rattle.tacho_check.specs.Checked.{IsChecked, Checks};
 
 use crate::current::ask_current;

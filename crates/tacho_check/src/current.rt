@@ -1,26 +1,18 @@
 //! Whether `meta` and the table of schema 1 are as a state's archive has them.
 
-ghost use Rattle.std.specs.Prelude.{◌≡◌, [], ◌∷◌, false, map, IsTrue, IfErr, OnOk};
+ghost use Rattle.std.specs.Prelude.{◌≡◌, [], ◌∷◌, false, IsTrue, IfErr, OnOk};
 ghost use Rattle.sqlite.specs.Held.{state};
-ghost use Rattle.tacho_reading.specs.Kept.{HasGivenUp};
-ghost use Rattle.tacho_tables.specs.Schema.{meta_rows as meta_tree, old_entry_tree};
 ghost use Rattle.tacho_tables.specs.Tables.{IsVersion, HasNoOldEntries};
+ghost use Rattle.tacho_tables.specs.Ask.{Learns, has_old_table};
+ghost use Rattle.tacho_reading.specs.Kept.{HasGivenUp};
 ghost use Rattle.tacho_check.specs.Checked.{Checks};
-ghost use Rattle.tacho_check.specs.Current.{Learns, AreFirst, has_old_table, meta_shown, old_entry_shown, current_shown};
+ghost use Rattle.tacho_check.specs.Current.{current_shown};
 
 use sqlite::{Alter, Connection, Row, Transaction};
 use tacho_reading::fault::store_fault;
 use tacho_state::StoreFault;
-use tacho_tables::statement::read;
+use tacho_tables::asking::{meta_rows, old_entry_rows};
 use tacho_tables::{TableFault, opening};
-
-/// Reads id and version of `meta`. Two rows are enough to know whether there is one.
-fn meta_rows<S: Alter>(tx: &mut Transaction<'_, S>) -> Result<Vec<Row>, TableFault>
-    ensures { Learns S.Store tx.old.conn tx.new.conn result
-        (λ layout db found. AreFirst 2 (map meta_shown (db meta_tree)) found.items) }
-{
-    read(tx, "SELECT id, version FROM meta LIMIT 2", &[])
-}
 
 /// Asks whether a row has id 1 and version 2.
 fn ask_row(row: &Row) -> Result<(), TableFault>
@@ -53,15 +45,6 @@ fn ask_meta<S: Alter>(tx: &mut Transaction<'_, S>) -> Result<(), TableFault>
 {
     let rows = meta_rows(tx)?;
     ask_rows(&rows)
-}
-
-/// Reads the drivers of `entries`, the table of schema 1. One row is enough to know whether there are any.
-fn old_entry_rows<S: Alter>(tx: &mut Transaction<'_, S>) -> Result<Vec<Row>, TableFault>
-    requires { IsTrue (has_old_table (state S.Store tx.old.conn.now)) }
-    ensures { Learns S.Store tx.old.conn tx.new.conn result
-        (λ layout db found. AreFirst 1 (map old_entry_shown (db old_entry_tree)) found.items) }
-{
-    read(tx, "SELECT driver FROM entries LIMIT 1", &[])
 }
 
 /// Asks whether there are no rows.

@@ -3,7 +3,7 @@
 ghost use Rattle.std.specs.Prelude.{◌≡◌, ◌↔◌, ◌++◌, ℤ, pos, List, [], IfOk, OnOk, IsTrue};
 ghost use Rattle.sqlite.specs.Order.{Row};
 ghost use Rattle.tacho_tables.specs.Rows.{DriverRow};
-ghost use Rattle.tacho_check.specs.declared.table.TableName.{TableName as Name};
+ghost use Rattle.tacho_tables.specs.declared.table.TableName.{TableName as Name};
 ghost use Rattle.tacho_check.specs.Fits.{Agrees};
 ghost use Rattle.tacho_check.specs.Hours.{entered_hours};
 ghost use Rattle.tacho_check.specs.Judged.{RightSpans, AreCounted, AreWhole, is_list, IsAgreed, AreAgreedFiles, IsRightList, AreRightFiles, IsRightHoursList, AreRightHours, IsFirstWrong, IsReadDriver, IsJudged, HasRows, first_present};
@@ -11,9 +11,9 @@ ghost use Rattle.tacho_check.specs.Wide.{wide_spans};
 
 use crate::files::{FileRow, are_numbered, given_by};
 use crate::hours::{HoursRow, are_in_order, entered};
-use crate::table::TableName;
 use crate::wide::{Wide, canonical, keeps};
 use std::alloc::{AllocError, Global};
+use tacho_tables::TableName;
 
 /// What a driver's row in `drivers` counts.
 #[derive(Clone, Copy)]

@@ -3,24 +3,22 @@
 ghost use Rattle.std.specs.Prelude.{◌≡◌, ℕ, pos, List, [], IfOk};
 ghost use Rattle.sqlite.specs.Order.{Row};
 ghost use Rattle.tacho_tables.specs.Rows.{DriverRow};
-ghost use Rattle.tacho_check.specs.declared.table.TableName.{TableName as Name};
-ghost use Rattle.tacho_check.specs.Ask.{Asks};
+ghost use Rattle.tacho_tables.specs.declared.table.TableName.{TableName as Name};
+ghost use Rattle.tacho_tables.specs.Ask.{Asks, own_in};
 ghost use Rattle.tacho_check.specs.Judged.{AreFilesRead, AreSpansRead, AreHoursRead, IsReadDriver, HasRows, IsJudged};
-ghost use Rattle.tacho_check.specs.Member.{own_in};
 ghost use Rattle.tacho_check.specs.Registered.{IsRegistered};
 ghost use Rattle.tacho_check.specs.declared.registered.Registered.TheVariants.{Counted};
 
-use crate::asking::{card_span_rows, file_rows, held_rows, hour_rows};
 use crate::files::FileRow;
 use crate::hours::HoursRow;
 use crate::judgement::{Counts, judge, judge_absent};
 use crate::own::{own_card_spans, own_files, own_held, own_hours};
 use crate::registered::{Registered, own_row};
-use crate::table::TableName;
 use crate::wide::Wide;
 use sqlite::{Alter, Transaction};
 use std::alloc::Global;
-use tacho_tables::TableFault;
+use tacho_tables::asking::{card_span_rows, file_rows, held_rows, hour_rows};
+use tacho_tables::{TableFault, TableName};
 
 /// A driver's card files and hours.
 #[derive(Drop)]

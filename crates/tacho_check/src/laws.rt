@@ -4,14 +4,15 @@
 ghost use Rattle.std.specs.Prelude.{ℤ, None, Some};
 ghost use Rattle.sqlite.specs.Tree.{Trees};
 ghost use Rattle.tacho_state.specs.State.{State};
-ghost use Rattle.tacho_reading.specs.Standing.{Represents};
 ghost use Rattle.tacho_tables.specs.Schema.{Layout};
-ghost use Rattle.tacho_check.specs.Check.{IsReadable, IsSoundAt, IsUnsoundAt, IsFirstUnsound};
-ghost use Rattle.tacho_check.specs.Member.{own_in};
+ghost use Rattle.tacho_tables.specs.Readable.{IsReadable};
+ghost use Rattle.tacho_tables.specs.Ask.{own_in};
+ghost use Rattle.tacho_tables.specs.declared.table.TableName.{TableName as Name};
+ghost use Rattle.tacho_tables.specs.declared.table.TableName.TheVariants.{Held as Last};
+ghost use Rattle.tacho_reading.specs.Standing.{Represents};
+ghost use Rattle.tacho_check.specs.Check.{IsSoundAt, IsUnsoundAt, IsFirstUnsound};
 ghost use Rattle.tacho_check.specs.Judged.{IsJudged};
-ghost use Rattle.tacho_check.specs.declared.table.TableName.{TableName as Name};
 ghost use Rattle.tacho_check.specs.declared.table.Unsound.{Unsound as Named};
-ghost use Rattle.tacho_check.specs.declared.table.TableName.TheVariants.{Held as Last};
 
 /// Tables of which some rows are unsound represent no state.
 pub fn unsound_is_no_state()

@@ -1,7 +1,6 @@
 //! Whether the archive's tables represent a state. If they don't, the first driver and the first table for which no state has such rows.
 #![tactic(auto)]
 
-pub mod asking;
 pub mod checking;
 pub mod current;
 pub mod file_parsing;
@@ -20,5 +19,6 @@ mod text;
 pub mod wide;
 
 pub use checking::check;
-pub use table::{TableName, Unsound};
+pub use table::Unsound;
+pub use tacho_tables::TableName;
 pub use text::check_text;

@@ -2,21 +2,13 @@
 
 ghost use Rattle.std.specs.Prelude.{◌≡◌, map, IfOk};
 ghost use Rattle.tacho_tables.specs.Schema.{driver_rows};
-ghost use Rattle.tacho_check.specs.Ask.{Asks, Show};
-ghost use Rattle.tacho_check.specs.Numbers.{number_shown, number_row, AreAllNumbers};
+ghost use Rattle.tacho_tables.specs.Ask.{Asks, number_shown};
+ghost use Rattle.tacho_check.specs.Numbers.{number_row, AreAllNumbers};
 
 use sqlite::{Alter, Row, Transaction};
 use std::alloc::Global;
 use tacho_tables::TableFault;
-use tacho_tables::statement::read;
-
-/// Reads the number of each row of `drivers`.
-fn number_rows<S: Alter>(tx: &mut Transaction<'_, S>) -> Result<Vec<Row>, TableFault>
-    ensures { Asks S.Store tx.old.conn tx.new.conn result
-        (λ layout db found. Show number_shown (db driver_rows) found.items) }
-{
-    read(tx, "SELECT driver FROM drivers", &[])
-}
+use tacho_tables::asking::number_rows;
 
 /// Returns the first number of each row.
 fn numbers_in(alloc: Global, rows: &[Row]) -> Result<Vec<i64>, TableFault>

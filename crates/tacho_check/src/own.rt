@@ -1,21 +1,19 @@
 //! The rows of one driver in each table but `drivers`, as typed rows.
 
 ghost use Rattle.std.specs.Prelude.{◌≡◌, ℕ, pos};
-ghost use Rattle.tacho_check.specs.Ask.{Asks};
+ghost use Rattle.tacho_tables.specs.Ask.{Asks, own_in};
 ghost use Rattle.tacho_check.specs.Judged.{AreFilesRead, AreSpansRead, AreHoursRead};
-ghost use Rattle.tacho_check.specs.Member.{own_in};
 
-use crate::asking::{card_span_rows, file_rows, held_rows, hour_rows};
 use crate::file_parsing::files_in_order;
 use crate::files::FileRow;
 use crate::hour_parsing::hours_in_order;
 use crate::hours::HoursRow;
 use crate::parsing::spans_of;
-use crate::table::TableName;
 use crate::wide::Wide;
 use sqlite::{Alter, Transaction};
 use std::alloc::Global;
-use tacho_tables::TableFault;
+use tacho_tables::asking::{card_span_rows, file_rows, held_rows, hour_rows};
+use tacho_tables::{TableFault, TableName};
 
 /// Reads a driver's rows of `card_spans`; none if no state has one of them.
 pub fn own_card_spans<S: Alter>(

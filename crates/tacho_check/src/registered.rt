@@ -2,16 +2,14 @@
 
 ghost use Rattle.std.specs.Prelude.{◌≡◌, ◌∷◌, [], IfOk};
 ghost use Rattle.sqlite.specs.declared.types.Value.TheVariants.{Int};
-ghost use Rattle.tacho_check.specs.Ask.{Asks, Show};
-ghost use Rattle.tacho_check.specs.Member.{own_in};
-ghost use Rattle.tacho_check.specs.Registered.{driver_shown, AreDriverParts, AreCountsOf, IsShownDriver, IsRegistered};
+ghost use Rattle.tacho_tables.specs.Ask.{Asks, own_in};
+ghost use Rattle.tacho_check.specs.Registered.{AreDriverParts, AreCountsOf, IsShownDriver, IsRegistered};
 
 use crate::judgement::Counts;
 use crate::parsing::natural;
-use crate::table::TableName;
-use sqlite::{Alter, Row, Transaction, params};
-use tacho_tables::TableFault;
-use tacho_tables::statement::read;
+use sqlite::{Alter, Row, Transaction};
+use tacho_tables::asking::driver_rows;
+use tacho_tables::{TableFault, TableName};
 
 /// Whether a driver has a row in `drivers`, and what it counts. `Unfit` says that their rows there aren't those of a state.
 #[derive(Clone, Copy)]
@@ -28,18 +26,6 @@ pub struct DriverParts {
     pub base: i64,
     pub downloads: i64,
     pub entries: i64,
-}
-
-/// Reads driver, base, downloads and entries of a driver's rows of `drivers`.
-fn driver_rows<S: Alter>(tx: &mut Transaction<'_, S>, driver: i64) -> Result<Vec<Row>, TableFault>
-    ensures { Asks S.Store tx.old.conn tx.new.conn result
-        (λ layout db found. Show driver_shown (own_in layout db driver TableName.Drivers) found.items) }
-{
-    read(
-        tx,
-        "SELECT driver, base, downloads, entries FROM drivers WHERE driver = ?1",
-        params![driver],
-    )
 }
 
 /// Returns the numbers of a row of driver, base, downloads and entries.

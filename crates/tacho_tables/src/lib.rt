@@ -2,6 +2,7 @@
 //! within a transaction.
 #![tactic(auto)]
 
+pub mod asking;
 pub mod downloads;
 pub mod drivers;
 pub mod entries;
@@ -12,7 +13,9 @@ pub mod opening;
 mod rows;
 pub mod spans;
 pub mod statement;
+mod table;
 
 pub use fault::TableFault;
 pub use rows::{StoredDriver, StoredEntry, StoredFile, StoredSpan, next_span};
 pub use spans::SpanTable;
+pub use table::TableName;

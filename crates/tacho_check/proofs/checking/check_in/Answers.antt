@@ -1,6 +1,6 @@
 use Rattle.std.proofs.Common.{rules, ◌≡◌, ℕ, ℤ, pos, ◌<◌, ◌≤◌, List, None, Ok, length, slice_index_or, subst, to_z-of_z, SFits, w64}
+use Rattle.tacho_tables.specs.Ask.{own_in}
 use Rattle.tacho_check.specs.Judged.{IsJudged}
-use Rattle.tacho_check.specs.Member.{own_in}
 use Rattle.tacho_check.proofs.CheckLemmas.{one_more, all_checked, found_checked}
 use Rattle.tacho_check.proofs.OwnReadLemmas.{passes_on}
 use Rattle.tacho_check.proofs.ThenLemmas.{then_read, then_stop}

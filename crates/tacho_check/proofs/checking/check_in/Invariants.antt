@@ -1,7 +1,7 @@
 use Rattle.std.proofs.Common.{ℤ, List, take, Ok}
 use Rattle.tacho_tables.specs.Schema as made
 use Rattle.tacho_tables.specs.declared.fault.TableFault.{TableFault}
-use Rattle.tacho_check.specs.Ask.{Asks}
+use Rattle.tacho_tables.specs.Ask.{Asks}
 use Rattle.tacho_check.specs.Checked.{AreSoundIn}
 use Rattle.tacho_check.specs.Numbers.{AreAllNumbers}
 use Rattle.tacho_check.proofs.checking.check_in.Given as goal

@@ -1,5 +1,5 @@
 use Rattle.std.proofs.Common.{Option, subst, sym}
-use Rattle.tacho_check.specs.declared.table.TableName.{TableName}
+use Rattle.tacho_tables.specs.declared.table.TableName.{TableName}
 use Rattle.tacho_check.specs.Judged.{IsJudged}
 use Rattle.tacho_check.proofs.AbsentLemmas.{absent_judged}
 use Rattle.tacho_check.proofs.judgement.judge_absent.Goals as goal

@@ -1,8 +1,7 @@
 use Rattle.std.proofs.Common.{to_z-of_z}
 use Rattle.sqlite.specs.Held.{state}
-use Rattle.tacho_check.specs.Ask.{five_shown}
-use Rattle.tacho_check.specs.Member.{own_in}
-use Rattle.tacho_check.specs.declared.table.TableName.TheVariants.{EntryRows}
+use Rattle.tacho_tables.specs.Ask.{five_shown, own_in}
+use Rattle.tacho_tables.specs.declared.table.TableName.TheVariants.{EntryRows}
 use Rattle.tacho_check.proofs.JudgingLemmas.{shown_any}
 use Rattle.tacho_check.proofs.OwnReadLemmas.{passes_on, gives_up}
 use Rattle.tacho_check.proofs.judging.has_hours.Goals as goal

@@ -1,7 +1,7 @@
 use Rattle.std.proofs.Common.{subst, sym, to_z-of_z}
 use Rattle.std.proofs.lemmas.Result.{IfOk-weaker}
+use Rattle.tacho_tables.specs.Ask.{own_in}
 use Rattle.tacho_check.specs.Judged.{IsJudged}
-use Rattle.tacho_check.specs.Member.{own_in}
 use Rattle.tacho_check.proofs.JudgingLemmas.{registered_number}
 use Rattle.tacho_check.proofs.OwnReadLemmas.{gives_up}
 use Rattle.tacho_check.proofs.ThenLemmas.{then_read, then_stop}

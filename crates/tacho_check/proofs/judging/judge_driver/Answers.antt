@@ -1,7 +1,7 @@
 use Rattle.std.proofs.Common.{subst, to_z-of_z}
-use Rattle.tacho_check.specs.Member.{own_in}
+use Rattle.tacho_tables.specs.Ask.{own_in}
+use Rattle.tacho_tables.specs.declared.table.TableName.TheVariants.{Drivers}
 use Rattle.tacho_check.specs.Registered.{IsRegistered}
-use Rattle.tacho_check.specs.declared.table.TableName.TheVariants.{Drivers}
 use Rattle.tacho_check.proofs.AbsentLemmas.{unfit_judged}
 use Rattle.tacho_check.proofs.OwnReadLemmas.{passes_on, gives_up}
 use Rattle.tacho_check.proofs.ThenLemmas.{tail_read}

@@ -1,5 +1,5 @@
 use Rattle.std.proofs.Common.{to_z-of_z}
-use Rattle.tacho_check.specs.Member.{own_in}
+use Rattle.tacho_tables.specs.Ask.{own_in}
 use Rattle.tacho_check.proofs.OwnReadLemmas.{gives_up}
 use Rattle.tacho_check.proofs.ThenLemmas.{then_read, then_stop}
 use Rattle.tacho_check.proofs.judging.judge_unregistered.Goals as goal

@@ -1,4 +1,4 @@
-use Rattle.tacho_check.specs.declared.table.TableName.TheVariants.{Held}
+use Rattle.tacho_tables.specs.declared.table.TableName.TheVariants.{Held}
 use Rattle.tacho_check.proofs.OwnLemmas.{sound_own, own_sound}
 use Rattle.tacho_check.proofs.laws.judged_rows.Goals as goal
 

@@ -1,6 +1,7 @@
 use Rattle.std.proofs.Common.{◌≡◌, List, map, subst}
 use Rattle.sqlite.specs.Order.{Row}
-use Rattle.tacho_check.specs.Numbers.{number_shown, number_row}
+use Rattle.tacho_tables.specs.Ask.{number_shown}
+use Rattle.tacho_check.specs.Numbers.{number_row}
 use Rattle.tacho_check.proofs.NumberLemmas.{are_all}
 use Rattle.tacho_check.proofs.OwnReadLemmas.{passes_on, gives_up}
 use Rattle.tacho_check.proofs.numbers.driver_numbers.Goals as goal

@@ -2,7 +2,8 @@ use Rattle.std.proofs.Common.{rules, ◌≡◌, ◌∙◌, ℕ, suc, ◌+◌, �
 use Rattle.std.specs.List.{slice_index_or}
 use Rattle.std.proofs.Math.Seq.{drop-cons}
 use Rattle.sqlite.specs.Order.{Row}
-use Rattle.tacho_check.specs.Numbers.{number_shown, number_row}
+use Rattle.tacho_tables.specs.Ask.{number_shown}
+use Rattle.tacho_check.specs.Numbers.{number_row}
 use Rattle.tacho_check.proofs.FileParsedLemmas.{one_shown}
 use Rattle.tacho_check.proofs.numbers.numbers_in.Goals as goal
 

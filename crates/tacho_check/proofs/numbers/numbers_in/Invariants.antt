@@ -1,5 +1,6 @@
 use Rattle.std.proofs.Common.{◌≡◌, ◌++◌, drop, map}
-use Rattle.tacho_check.specs.Numbers.{number_shown, number_row}
+use Rattle.tacho_tables.specs.Ask.{number_shown}
+use Rattle.tacho_check.specs.Numbers.{number_row}
 use Rattle.tacho_check.proofs.numbers.numbers_in.Given as goal
 
 -- the rows of the numbers so far, followed by what the remaining rows show, are what all rows show

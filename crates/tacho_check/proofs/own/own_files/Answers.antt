@@ -3,14 +3,14 @@ use Rattle.std.proofs.lemmas.Result.{IfOk-weaker}
 use Rattle.sqlite.specs.Held.{state}
 use Rattle.sqlite.specs.Order.{Row}
 use Rattle.tacho_tables.specs.Schema as made
-use Rattle.tacho_check.specs.Check.{own_rows}
-use Rattle.tacho_check.specs.Ask.{three_shown, Show}
+use Rattle.tacho_tables.specs.Readable.{own_rows}
+use Rattle.tacho_tables.specs.Ask.{three_shown, Show}
+use Rattle.tacho_tables.proofs.UniqueLemmas.{downloads_have}
 use Rattle.tacho_check.specs.Judged.{AreFilesRead}
 use Rattle.tacho_check.specs.Own.{AreFilesInOrder}
 use Rattle.tacho_check.proofs.FileReadLemmas.{files_are_read}
 use Rattle.tacho_check.proofs.OwnReadLemmas.{passes_on, gives_up}
 use Rattle.tacho_check.proofs.TypeLemmas.{downloads_types}
-use Rattle.tacho_check.proofs.UniqueLemmas.{downloads_have}
 use Rattle.tacho_check.proofs.own.own_files.Goals as goal
 
 pub returns : goal.returns

@@ -3,13 +3,13 @@ use Rattle.std.proofs.lemmas.Result.{IfOk-weaker}
 use Rattle.sqlite.specs.Held.{state}
 use Rattle.sqlite.specs.Order.{Row}
 use Rattle.tacho_tables.specs.Schema as made
-use Rattle.tacho_check.specs.Check.{own_rows}
-use Rattle.tacho_check.specs.Ask.{three_shown, Show}
+use Rattle.tacho_tables.specs.Readable.{own_rows}
+use Rattle.tacho_tables.specs.Ask.{three_shown, Show}
+use Rattle.tacho_tables.proofs.UniqueLemmas.{held_have}
 use Rattle.tacho_check.specs.Judged.{AreSpansRead}
 use Rattle.tacho_check.specs.Parsed.{AreSpansOf}
 use Rattle.tacho_check.proofs.ReadLemmas.{spans_are_read}
 use Rattle.tacho_check.proofs.OwnReadLemmas.{passes_on, gives_up, held_types}
-use Rattle.tacho_check.proofs.UniqueLemmas.{held_have}
 use Rattle.tacho_check.proofs.own.own_held.Goals as goal
 
 pub returns : goal.returns

@@ -3,14 +3,14 @@ use Rattle.std.proofs.lemmas.Result.{IfOk-weaker}
 use Rattle.sqlite.specs.Held.{state}
 use Rattle.sqlite.specs.Order.{Row}
 use Rattle.tacho_tables.specs.Schema.{entry_tree}
-use Rattle.tacho_check.specs.Check.{own_rows}
-use Rattle.tacho_check.specs.Ask.{five_shown, Show}
+use Rattle.tacho_tables.specs.Readable.{own_rows}
+use Rattle.tacho_tables.specs.Ask.{five_shown, Show}
+use Rattle.tacho_tables.proofs.UniqueLemmas.{entries_have}
 use Rattle.tacho_check.specs.Judged.{AreHoursRead}
 use Rattle.tacho_check.specs.Own.{AreHoursInOrder}
 use Rattle.tacho_check.proofs.HourReadLemmas.{hours_are_read}
 use Rattle.tacho_check.proofs.OwnReadLemmas.{passes_on, gives_up}
 use Rattle.tacho_check.proofs.TypeLemmas.{entries_types, entries_present}
-use Rattle.tacho_check.proofs.UniqueLemmas.{entries_have}
 use Rattle.tacho_check.proofs.own.own_hours.Goals as goal
 
 pub returns : goal.returns

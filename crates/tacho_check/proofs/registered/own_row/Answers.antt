@@ -3,7 +3,7 @@ use Rattle.std.proofs.lemmas.Result.{IfOk-weaker}
 use Rattle.sqlite.specs.Held.{state}
 use Rattle.sqlite.specs.Order.{Row}
 use Rattle.tacho_tables.specs.Schema as made
-use Rattle.tacho_check.specs.Check.{own_rows}
+use Rattle.tacho_tables.specs.Readable.{own_rows}
 use Rattle.tacho_check.specs.Registered.{IsShownDriver}
 use Rattle.tacho_check.proofs.OwnReadLemmas.{passes_on, gives_up}
 use Rattle.tacho_check.proofs.RegisteredLemmas.{registered_is, drivers_stored}

@@ -2,9 +2,9 @@ use Rattle.std.proofs.Common.{to_z-of_z}
 use Rattle.std.proofs.lemmas.Result.{IfOk-weaker}
 use Rattle.sqlite.specs.Held.{state}
 use Rattle.tacho_tables.proofs.CallLemmas.{plain_in}
-use Rattle.tacho_check.specs.Registered.{driver_text}
-use Rattle.tacho_check.proofs.DriverAskLemmas.{driver_is, asked_driver}
-use Rattle.tacho_check.proofs.registered.driver_rows.Goals as goal
+use Rattle.tacho_tables.specs.Ask.{driver_text}
+use Rattle.tacho_tables.proofs.DriverAskLemmas.{driver_is, asked_driver}
+use Rattle.tacho_tables.proofs.asking.driver_rows.Goals as goal
 
 pub returns : goal.returns
 returns g c =

@@ -3,10 +3,11 @@ use Rattle.std.proofs.lemmas.Result.{IfOk-weaker}
 use Rattle.sqlite.specs.Held.{state}
 use Rattle.tacho_tables.specs.Schema.{archive_schema}
 use Rattle.tacho_tables.proofs.CallLemmas.{plain_in}
-use Rattle.tacho_check.specs.Ask.{cards_text, three_shown}
-use Rattle.tacho_check.proofs.AskLemmas.{asked, three, span_names, cards_is, three_parts}
-use Rattle.tacho_check.proofs.UniqueLemmas.{card_spans_have}
-use Rattle.tacho_check.proofs.asking.card_span_rows.Goals as goal
+use Rattle.tacho_tables.specs.Ask.{cards_text, three_shown}
+use Rattle.tacho_tables.proofs.AskLemmas.{asked, cards_is, three_parts}
+use Rattle.tacho_tables.proofs.Statements.{three_shown as three, span_names}
+use Rattle.tacho_tables.proofs.UniqueLemmas.{card_spans_have}
+use Rattle.tacho_tables.proofs.asking.card_span_rows.Goals as goal
 
 pub returns : goal.returns
 returns g c =

@@ -3,10 +3,11 @@ use Rattle.std.proofs.lemmas.Result.{IfOk-weaker}
 use Rattle.sqlite.specs.Held.{state}
 use Rattle.tacho_tables.specs.Schema.{archive_schema}
 use Rattle.tacho_tables.proofs.CallLemmas.{plain_in}
-use Rattle.tacho_check.specs.Ask.{held_text, three_shown}
-use Rattle.tacho_check.proofs.AskLemmas.{asked, three, span_names, held_is, three_parts}
-use Rattle.tacho_check.proofs.UniqueLemmas.{held_have}
-use Rattle.tacho_check.proofs.asking.held_rows.Goals as goal
+use Rattle.tacho_tables.specs.Ask.{held_text, three_shown}
+use Rattle.tacho_tables.proofs.AskLemmas.{asked, held_is, three_parts}
+use Rattle.tacho_tables.proofs.Statements.{three_shown as three, span_names}
+use Rattle.tacho_tables.proofs.UniqueLemmas.{held_have}
+use Rattle.tacho_tables.proofs.asking.held_rows.Goals as goal
 
 pub returns : goal.returns
 returns g c =

@@ -1,9 +1,9 @@
 use Rattle.std.proofs.lemmas.Result.{IfOk-weaker}
 use Rattle.sqlite.specs.Held.{state}
 use Rattle.tacho_tables.proofs.CallLemmas.{plain_in}
-use Rattle.tacho_check.specs.Current.{meta_text}
-use Rattle.tacho_check.proofs.CurrentAskLemmas.{meta_is, asked_meta}
-use Rattle.tacho_check.proofs.current.meta_rows.Goals as goal
+use Rattle.tacho_tables.specs.Ask.{meta_text}
+use Rattle.tacho_tables.proofs.CurrentAskLemmas.{meta_is, asked_meta}
+use Rattle.tacho_tables.proofs.asking.meta_rows.Goals as goal
 
 pub returns : goal.returns
 returns g c =

@@ -6,10 +6,9 @@ use Rattle.sqlite.specs.Listing.{understood}
 use Rattle.sqlite.specs.Schema.{Schema}
 use Rattle.tacho_tables.specs.Schema.{Carried, archive_schema}
 use Rattle.tacho_tables.specs.Tables.{IsArchive}
-use Rattle.tacho_check.specs.Current.{old_entries_text}
-use Rattle.tacho_check.proofs.CurrentAskLemmas.{old_entries_is, asked_old_entries}
-use Rattle.tacho_check.proofs.LearnLemmas.{is_migrated}
-use Rattle.tacho_check.proofs.current.old_entry_rows.Goals as goal
+use Rattle.tacho_tables.specs.Ask.{old_entries_text}
+use Rattle.tacho_tables.proofs.CurrentAskLemmas.{old_entries_is, asked_old_entries, is_migrated}
+use Rattle.tacho_tables.proofs.asking.old_entry_rows.Goals as goal
 
 pub returns : goal.returns
 returns g c =

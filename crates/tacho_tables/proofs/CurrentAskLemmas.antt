@@ -1,5 +1,5 @@
 -- What the readings of `meta` and of the table of schema 1 show.
-use Rattle.std.proofs.Common.{◌≡◌, ◌∙◌, ℕ, pos, false, List, [], ◌∷◌, flat_map, map, codes, refl, ap, subst}
+use Rattle.std.proofs.Common.{◌≡◌, ◌∙◌, ℕ, pos, true, false, true≢false, IsTrue, List, [], ◌∷◌, flat_map, map, codes, refl, sym, ap, subst}
 use Rattle.std.specs.List.Sorted.{IsPermutation}
 use Rattle.std.proofs.lemmas.List.Sorted.{IsPermutation-map}
 use Rattle.sqlite_value.specs.declared.value.Value.TheVariants.{Null, Int}
@@ -15,13 +15,15 @@ use Rattle.sqlite_trees.specs.Tree.{Trees}
 use Rattle.sqlite_trees.proofs.ListLemmas.{map-map}
 use Rattle.sqlite_sql.specs.Term.{Term, Env, lit, col, eval_all}
 use Rattle.sqlite_sql.specs.Query.{Query, IsAnswer, output, Output}
-use Rattle.tacho_tables.specs.Schema.{Layout, Made, Carried, archive_schema}
-use Rattle.tacho_check.specs.Current.{AreFirst, meta_text, old_entries_text, meta_shown, old_entry_shown}
-use Rattle.tacho_check.proofs.AskLemmas.{simple, none_given}
+use Rattle.tacho_tables.specs.Schema.{Layout, Made, Carried, archive_schema, has_tables, old_names}
+use Rattle.tacho_tables.specs.Tables.{IsArchive}
+use Rattle.tacho_tables.specs.Ask.{AreFirst, has_old_table, meta_text, old_entries_text, meta_shown, old_entry_shown}
+use Rattle.tacho_tables.proofs.Answers.{simple}
+use Rattle.tacho_tables.proofs.SpanLemmas.{none_given}
 
 -- a query for at most `count` rows of one table
 abbrev pub first_rows : ℕ → ℕ → List Term → Query
-first_rows count t shown = record (simple t [] shown) { limit = lit (Int (pos count)) }
+first_rows count t shown = record (simple t [] shown []) { limit = lit (Int (pos count)) }
 
 -- without tests each row matches
 all_match : (params : Row) (rows : List Row)
@@ -45,7 +47,7 @@ shows count t shown db params rows a =
     }
 
 -- under the schema the text shows these columns of at most `count` rows of a table
-pub record IsReading (schema : Schema) (text : List ℕ) (count t : ℕ) (shown : List Term) (names : List (List ℕ)) : Type 0 where
+pub record IsReadingUpTo (schema : Schema) (text : List ℕ) (count t : ℕ) (shown : List Term) (names : List (List ℕ)) : Type 0 where
   pub meant : command_of (understood schema text) ≡ Select (record { lets = []; body = first_rows count t shown }) names
   pub unlisted : reads_listing schema text ≡ false
   pub plain : IsPlain (understood schema text)
@@ -56,17 +58,17 @@ meta_terms = col 1 0 ∷ col 1 2 ∷ []
 abbrev pub old_entry_terms : List Term
 old_entry_terms = col 1 1 ∷ []
 
-pub meta_is : (layout : Layout) → IsReading (archive_schema layout) meta_text 2 0 meta_terms (codes "id" ∷ codes "version" ∷ [])
+pub meta_is : (layout : Layout) → IsReadingUpTo (archive_schema layout) meta_text 2 0 meta_terms (codes "id" ∷ codes "version" ∷ [])
 unfolding understood everything
 meta_is Made = record { meant = refl; unlisted = refl; plain = (refl, refl) }
 meta_is Carried = record { meant = refl; unlisted = refl; plain = (refl, refl) }
 
-pub old_entries_is : IsReading (archive_schema Carried) old_entries_text 1 8 old_entry_terms (codes "driver" ∷ [])
+pub old_entries_is : IsReadingUpTo (archive_schema Carried) old_entries_text 1 8 old_entry_terms (codes "driver" ∷ [])
 unfolding understood everything
 old_entries_is = record { meant = refl; unlisted = refl; plain = (refl, refl) }
 
 module _ (schema : Schema) (text : List ℕ) (count t : ℕ) (shown : List Term) (names : List (List ℕ))
-    (it : IsReading schema text count t shown names) (old new : State) (rows : List Row) (same : old.now.schema ≡ schema)
+    (it : IsReadingUpTo schema text count t shown names) (old new : State) (rows : List Row) (same : old.now.schema ≡ schema)
     (h : Shown text [] old new rows) where
   -- the rows that are read are the first of the table
   asked : AreFirst count (map (λ (r : Row). eval_all shown ([] ∷ r ∷ [])) (old.now.trees t)) rows
@@ -82,3 +84,12 @@ asked_meta layout old new rows same h = asked (archive_schema layout) meta_text 
 pub asked_old_entries : (old new : State) (rows : List Row) → old.now.schema ≡ archive_schema Carried
     → Shown old_entries_text [] old new rows → AreFirst 1 (map old_entry_shown (old.now.trees 8)) rows
 asked_old_entries old new rows same h = asked (archive_schema Carried) old_entries_text 1 8 old_entry_terms _ old_entries_is old new rows same h
+
+-- an archive that has the table of schema 1 was migrated
+migrated : (layout : Layout) → has_tables old_names (archive_schema layout) ≡ true → layout ≡ Carried
+unfolding everything
+migrated Made has = absurd (true≢false (sym has))
+migrated Carried has = refl
+
+pub is_migrated : (s : State) (is : IsArchive s.now) → IsTrue (has_old_table s) → is.layout ≡ Carried
+is_migrated s is has = migrated is.layout (subst (λ x. has_tables old_names x ≡ true) is.schema has)

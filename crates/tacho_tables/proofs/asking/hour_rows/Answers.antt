@@ -3,10 +3,10 @@ use Rattle.std.proofs.lemmas.Result.{IfOk-weaker}
 use Rattle.sqlite.specs.Held.{state}
 use Rattle.tacho_tables.specs.Schema.{archive_schema, entry_tree}
 use Rattle.tacho_tables.proofs.CallLemmas.{plain_in}
-use Rattle.tacho_check.specs.Ask.{hours_text, five_shown}
-use Rattle.tacho_check.proofs.AskLemmas.{asked, five, hour_names, hours_is, five_parts}
-use Rattle.tacho_check.proofs.UniqueLemmas.{entries_have}
-use Rattle.tacho_check.proofs.asking.hour_rows.Goals as goal
+use Rattle.tacho_tables.specs.Ask.{hours_text, five_shown}
+use Rattle.tacho_tables.proofs.AskLemmas.{asked, five, hour_names, hours_is, five_parts}
+use Rattle.tacho_tables.proofs.UniqueLemmas.{entries_have}
+use Rattle.tacho_tables.proofs.asking.hour_rows.Goals as goal
 
 pub returns : goal.returns
 returns g c =

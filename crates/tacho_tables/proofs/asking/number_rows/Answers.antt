@@ -1,9 +1,9 @@
 use Rattle.std.proofs.lemmas.Result.{IfOk-weaker}
 use Rattle.sqlite.specs.Held.{state}
 use Rattle.tacho_tables.proofs.CallLemmas.{plain_in}
-use Rattle.tacho_check.specs.Numbers.{numbers_text}
-use Rattle.tacho_check.proofs.NumberLemmas.{numbers_are, asked_numbers}
-use Rattle.tacho_check.proofs.numbers.number_rows.Goals as goal
+use Rattle.tacho_tables.specs.Ask.{numbers_text}
+use Rattle.tacho_tables.proofs.DriverAskLemmas.{numbers_are, asked_numbers}
+use Rattle.tacho_tables.proofs.asking.number_rows.Goals as goal
 
 pub returns : goal.returns
 returns g c =

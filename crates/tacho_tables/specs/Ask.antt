@@ -1,0 +1,95 @@
+-- Private to tacho_tables: Readings of rows as they are stored.
+use Rattle.std.specs.Prelude.{◌≡◌, ℕ, ℤ, Bool, List, [], ◌∷◌, codes, map, take, Result, IfOk, IsPermutation}
+use Rattle.std.specs.Borrow.{MutBor}
+use Rattle.sqlite.specs.Held.{Held, state}
+use Rattle.sqlite.specs.Order.{Row, column}
+use Rattle.sqlite.specs.State.{State, HasCleanDisk}
+use Rattle.sqlite.specs.Store.{Ghosts}
+use Rattle.sqlite.specs.Tree.{Trees}
+use Rattle.tacho_tables.specs.declared.table.TableName.{TableName}
+use Rattle.tacho_tables.specs.Schema.{Layout, has_tables, old_names}
+use Rattle.tacho_tables.specs.Tables.{IsArchive}
+use Rattle.tacho_tables.specs.Calls.{Reads}
+use Rattle.tacho_tables.specs.Readable.{IsReadable, own_rows, stored_rows}
+
+-- a reading whose answer is a fact of the stored rows
+pub record Asks {S : Type 0} (g : Ghosts S) (old new : MutBor (Held S)) {A E : Type 0} (result : Result A E)
+    (fact : Layout → Trees → A → Type 0) : Type 0 where
+  pub reads : Reads g old new result
+  pub found : HasCleanDisk (state g new.now) → (is : IsArchive (state g old.now).now) → IsReadable is.layout (state g old.now).now.trees
+      → IfOk result (fact is.layout (state g old.now).now.trees)
+
+-- a reading of an archive, whatever rows it has, whose answer is a fact of the stored rows
+pub record Learns {S : Type 0} (g : Ghosts S) (old new : MutBor (Held S)) {A E : Type 0} (result : Result A E)
+    (fact : Layout → Trees → A → Type 0) : Type 0 where
+  pub reads : Reads g old new result
+  pub found : HasCleanDisk (state g new.now) → (is : IsArchive (state g old.now).now)
+      → IfOk result (fact is.layout (state g old.now).now.trees)
+
+-- there is a table of schema 1
+abbrev pub has_old_table : State → Bool
+has_old_table s = has_tables old_names s.now.schema
+
+-- the stored rows of a driver, table by table
+abbrev pub own_in : Layout → Trees → ℤ → TableName → List Row
+own_in layout db n j = own_rows n (stored_rows layout j db)
+
+-- ---- what is shown
+
+-- what readings show of a row without its hidden number: of spans start, past and mark; of downloads number, part and file; of entries
+-- number, start, past, mark and withdrawn
+abbrev pub three_shown : Row → Row
+three_shown w = column w 1 ∷ column w 2 ∷ column w 3 ∷ []
+
+abbrev pub five_shown : Row → Row
+five_shown w = column w 1 ∷ column w 2 ∷ column w 3 ∷ column w 4 ∷ column w 5 ∷ []
+
+-- of a row of `drivers`, and of one of which only the number is asked
+abbrev pub driver_shown : Row → Row
+driver_shown w = column w 0 ∷ column w 4 ∷ column w 6 ∷ column w 7 ∷ []
+
+abbrev pub number_shown : Row → Row
+number_shown w = column w 0 ∷ []
+
+-- of `meta`, and of the table of schema 1
+abbrev pub meta_shown : Row → Row
+meta_shown w = column w 0 ∷ column w 2 ∷ []
+
+abbrev pub old_entry_shown : Row → Row
+old_entry_shown w = column w 1 ∷ []
+
+-- the rows that were read show these rows, in any order
+abbrev pub Show : (Row → Row) → List Row → List Row → Type 0
+Show shown rows found = IsPermutation (map shown rows) found
+
+-- the rows that were read are at most `count` of the rows that are shown, in any order; they are fewer only if there are no more
+pub record AreFirst (count : ℕ) (shown found : List Row) : Type 0 where
+  pub listed : List Row
+  pub same : IsPermutation shown listed
+  pub first : found ≡ take count listed
+
+-- ---- the SQL of the readings
+
+abbrev pub files_text : List ℕ
+files_text = codes "SELECT number, part, file FROM downloads WHERE driver = ?1"
+
+abbrev pub cards_text : List ℕ
+cards_text = codes "SELECT start, past, mark FROM card_spans WHERE driver = ?1"
+
+abbrev pub hours_text : List ℕ
+hours_text = codes "SELECT number, start, past, mark, withdrawn FROM entry_rows WHERE driver = ?1"
+
+abbrev pub held_text : List ℕ
+held_text = codes "SELECT start, past, mark FROM held WHERE driver = ?1"
+
+abbrev pub driver_text : List ℕ
+driver_text = codes "SELECT driver, base, downloads, entries FROM drivers WHERE driver = ?1"
+
+abbrev pub numbers_text : List ℕ
+numbers_text = codes "SELECT driver FROM drivers"
+
+abbrev pub meta_text : List ℕ
+meta_text = codes "SELECT id, version FROM meta LIMIT 2"
+
+abbrev pub old_entries_text : List ℕ
+old_entries_text = codes "SELECT driver FROM entries LIMIT 1"
