@@ -1,6 +1,6 @@
 use Rattle.std.proofs.Common.{◌≡◌, ℕ, ◌+◌, ◌<◌, List, [], ◌∷◌, ◌++◌, refl, sym, ◌∙◌, arith, false}
 use Rattle.std.specs.List.{All}
-use Rattle.std.proofs.lemmas.List.Elements.{All-push, All-nil}
+use Rattle.std.proofs.lemmas.List.Elements.{All-push}
 use Rattle.tacho_time.specs.declared.span.Activity.{Activity}
 use Rattle.tacho_time.specs.declared.span.Span.{Span}
 use Rattle.tacho_law.specs.Line.{Joined}
@@ -18,10 +18,6 @@ alone start past activity = record { start = 28491840 + start; past = 28491840 +
 joined_push : (spans : List Span) (base past : ℕ) (s : Span) → Joined spans base past → s.start ≡ past → past < s.past → Joined (spans ++ s ∷ []) base s.past
 joined_push [] base past s j e some = (e ∙ sym j, let same : base ≡ past = j in omega arith, refl)
 joined_push (x ∷ spans) base past s (e, least, rest) f some = (e, least, joined_push spans x.past past s rest f some)
-
--- no spans yet
-pub laid_none : IsLaid [] 0
-laid_none = record { joined = refl; single = All-nil (λ (s : Span). s.mark.crew ≡ false) }
 
 -- one more span
 pub laid_push : (spans : List Span) (at to : ℕ) (activity : Activity) → IsLaid spans at → at < to → IsLaid (spans ++ alone at to activity ∷ []) to

@@ -1,12 +1,13 @@
+use crate::march::{line_of, month};
 use std::alloc::{AllocError, Global};
 use std::process::Abort;
 use std::test::Fail;
-use tacho_line::{Line, LineFault};
+use tacho_line::Line;
 use tacho_rules::can_be_examined;
 use tacho_sheet::why_text;
 use tacho_stretches::{Stretch, stretches};
 use tacho_time::Activity::{Drive, Rest, Work};
-use tacho_time::{Activity, Mark, Minute, Month, Span};
+use tacho_time::{Activity, Mark, Minute, Span};
 
 // `checks/failing_sheet.py` runs each test with each of its allocations refused in turn. So a test returns an error by `?` if it runs out
 // of memory, and asserts everything else.
@@ -112,16 +113,6 @@ fn spans_of(alloc: Global, pieces: &[Piece]) -> Result<Vec<Span>, AllocError> {
     Ok(spans)
 }
 
-/// Returns a line that holds these spans.
-fn line_of(alloc: Global, spans: &[Span]) -> Result<Line, LineFault> {
-    let mut line = Line::empty(alloc);
-    let gains = line.gains(alloc, spans)?;
-    if line.add(&gains).is_err() {
-        return Err(LineFault::Memory);
-    }
-    Ok(line)
-}
-
 /// Returns the stretches of a line from the Monday on.
 fn stretches_of(alloc: Global, line: &Line) -> Result<Vec<Stretch>, Fail> {
     let base = at(0);
@@ -131,18 +122,10 @@ fn stretches_of(alloc: Global, line: &Line) -> Result<Vec<Stretch>, Fail> {
     Ok(stretches(alloc, line, base)?)
 }
 
-/// Returns a month.
-fn month_of(text: &[u8]) -> Result<Month, Fail> {
-    match Month::read(text) {
-        Ok(month) => Ok(month),
-        Err(_) => Err(Fail::new("no month")),
-    }
-}
-
 #[test]
 fn breaches_have_their_evidence(rt: HostRuntime) -> Result<(), Fail> {
     let alloc = rt.alloc();
-    let march = month_of(b"2024-03")?;
+    let march = month(b"2024-03")?;
     for (name, pieces, wanted) in &ROWS {
         let line = line_of(alloc, &spans_of(alloc, pieces)?)?;
         let found = stretches_of(alloc, &line)?;
@@ -169,7 +152,7 @@ fn stretches_of_another_line_have_no_evidence(rt: HostRuntime) -> Result<(), Fai
         },
     };
     let line = line_of(alloc, &[late])?;
-    let march = month_of(b"2024-03")?;
+    let march = month(b"2024-03")?;
     assert!(&rt;
         why_text(alloc, &line, &found, march)?.is_none(),
         "a text of a line that is too long"

@@ -17,6 +17,8 @@ mod hours;
 #[cfg(test)]
 mod lines;
 #[cfg(test)]
+mod march;
+#[cfg(test)]
 mod passes;
 #[cfg(test)]
 mod pieces;

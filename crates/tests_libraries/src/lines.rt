@@ -1,5 +1,6 @@
 ghost use Rattle.std.specs.Prelude.{◌≤◌};
 
+use crate::march::learn;
 use crate::same::assert_same;
 use std::alloc::Global;
 use std::test::Fail;
@@ -33,13 +34,6 @@ fn single(start: u32, past: u32, activity: Activity) -> Span
     requires past { past ≤ 10000 }
 {
     span(start, past, activity, false)
-}
-
-/// Adds to a line what spans give that it doesn't hold.
-fn learn(alloc: Global, line: &mut Line, spans: &[Span]) -> Result<(), LineFault> {
-    let gains = line.gains(alloc, spans)?;
-    line.add(&gains)?;
-    Ok(())
 }
 
 /// Returns a line with a rest, some work, and driving up to minute 1020.

@@ -1,3 +1,4 @@
+use crate::march::learn;
 use std::alloc::{AllocError, Global};
 use std::test::Fail;
 use tacho_line::{Line, LineFault};
@@ -52,15 +53,6 @@ fn alone(activity: Activity) -> Mark {
     }
 }
 
-/// Adds spans to a line.
-fn add(alloc: Global, line: &mut Line, spans: &[Span]) -> Result<(), LineFault> {
-    let gains = line.gains(alloc, spans)?;
-    if line.add(&gains).is_err() {
-        return Err(LineFault::Memory);
-    }
-    Ok(())
-}
-
 /// Returns the spans of a piece, one for each of its days.
 fn spans_of(alloc: Global, piece: Piece) -> Result<Vec<Span>, AllocError> {
     let mut spans = Vec::new(alloc);
@@ -83,7 +75,7 @@ fn add_rest(alloc: Global, line: &mut Line, horizon: Minute) -> Result<(), LineF
             past: gap.past,
             mark: alone(Activity::Rest),
         };
-        add(alloc, line, &[rest])?;
+        learn(alloc, line, &[rest])?;
     }
     Ok(())
 }
@@ -92,7 +84,7 @@ fn add_rest(alloc: Global, line: &mut Line, horizon: Minute) -> Result<(), LineF
 pub(crate) fn line_of(alloc: Global, pieces: &[Piece], horizon: Minute) -> Result<Line, LineFault> {
     let mut line = Line::empty(alloc);
     for piece in pieces {
-        add(alloc, &mut line, &spans_of(alloc, *piece)?)?;
+        learn(alloc, &mut line, &spans_of(alloc, *piece)?)?;
     }
     add_rest(alloc, &mut line, horizon)?;
     Ok(line)

@@ -1,3 +1,5 @@
+use crate::march::{at, line_of, month, span};
+use crate::pieces::breach;
 use crate::same::assert_same;
 use std::alloc::Global;
 use std::test::Fail;
@@ -8,61 +10,16 @@ use tacho_sheet::{
     debt_text, form_text, incident_head, overview_head, push_incidents, push_overview, stretch_text,
 };
 use tacho_stretches::Stretch;
-use tacho_time::{Activity, Mark, Minute, Month, Span, Week};
+use tacho_time::{Activity, Minute, Week};
 
 // `checks/failing_sheet.py` runs each test with each of its allocations refused in turn. So a test returns an error by `?` if it runs out
 // of memory, and asserts everything else.
-
-/// Friday, 1 March 2024, 00:00.
-const MARCH: u32 = 28_487_520;
 
 /// Monday, 26 February 2024, 00:00.
 const FEBRUARY: u32 = 28_481_760;
 
 /// 2100-01-01 00:00.
 const LATEST: u32 = 68_374_080;
-
-/// Returns a minute of a day of March 2024. Day 32 is 1 April, and day 0 is the last of February.
-fn at(day: u32, minute: u32) -> Minute {
-    Minute::new((MARCH - 1440) + 1440 * day.min(60) + minute.min(1440))
-}
-
-/// Returns a span within one day.
-fn span(day: u32, from: u32, to: u32, activity: Activity, crew: bool) -> Span {
-    Span {
-        start: at(day, from),
-        past: at(day, to),
-        mark: Mark { activity, crew },
-    }
-}
-
-/// Returns a line that holds these spans.
-fn line_of(alloc: Global, spans: &[Span]) -> Result<Line, LineFault> {
-    let mut line = Line::empty(alloc);
-    let gains = line.gains(alloc, spans)?;
-    if line.add(&gains).is_err() {
-        return Err(LineFault::Memory);
-    }
-    Ok(line)
-}
-
-/// Returns a month of 2024.
-fn month(text: &[u8]) -> Result<Month, Fail> {
-    match Month::read(text) {
-        Ok(month) => Ok(month),
-        Err(_) => Err(Fail::new("no month")),
-    }
-}
-
-/// Returns a breach.
-fn breach(kind: Kind, moment: Minute, since: Minute, amount: u32) -> Breach {
-    Breach {
-        kind,
-        moment,
-        since,
-        amount,
-    }
-}
 
 /// Returns a debt of a week.
 fn debt(week: u32, amount: u32, deadline: Minute, paid_by: Option<Minute>) -> Debt {

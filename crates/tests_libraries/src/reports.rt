@@ -1,3 +1,5 @@
+use crate::march::{at, line_of, month, span};
+use crate::pieces::{breach, debt};
 use crate::same::assert_same;
 use std::alloc::Global;
 use std::test::Fail;
@@ -6,37 +8,10 @@ use tacho_line::{Cause, Horizon, Line, LineFault};
 use tacho_rules::Report;
 use tacho_sheet::{breach_text, gap_text, month_chart, month_sheet, owed_text, span_csv};
 use tacho_stretches::Stretch;
-use tacho_time::{Activity, Mark, Minute, Month, Span, Week, span_lines};
+use tacho_time::{Activity, Minute, Month, span_lines};
 
 // `checks/failing_sheet.py` runs each test with each of its allocations refused in turn. So a test returns an error by `?` if it runs out
 // of memory, and asserts everything else.
-
-/// Friday, 1 March 2024, 00:00.
-const MARCH: u32 = 28_487_520;
-
-/// Returns a minute of a day of March 2024. Day 32 is 1 April, and day 0 is the last of February.
-fn at(day: u32, minute: u32) -> Minute {
-    Minute::new((MARCH - 1440) + 1440 * day.min(60) + minute.min(1440))
-}
-
-/// Returns a span within one day.
-fn span(day: u32, from: u32, to: u32, activity: Activity, crew: bool) -> Span {
-    Span {
-        start: at(day, from),
-        past: at(day, to),
-        mark: Mark { activity, crew },
-    }
-}
-
-/// Returns a line that holds these spans.
-fn line_of(alloc: Global, spans: &[Span]) -> Result<Line, LineFault> {
-    let mut line = Line::empty(alloc);
-    let gains = line.gains(alloc, spans)?;
-    if line.add(&gains).is_err() {
-        return Err(LineFault::Memory);
-    }
-    Ok(line)
-}
 
 /// Returns rest, work and driving on Monday the 4th, and rest over the month's end.
 fn a_month(alloc: Global) -> Result<Line, LineFault> {
@@ -52,30 +27,7 @@ fn a_month(alloc: Global) -> Result<Line, LineFault> {
 
 /// Returns March 2024.
 fn march() -> Result<Month, Fail> {
-    match Month::read(b"2024-03") {
-        Ok(month) => Ok(month),
-        Err(_) => Err(Fail::new("no month")),
-    }
-}
-
-/// Returns a breach.
-fn breach(kind: Kind, moment: Minute, since: Minute, amount: u32) -> Breach {
-    Breach {
-        kind,
-        moment,
-        since,
-        amount,
-    }
-}
-
-/// Returns a debt of the week of Monday the 4th, which has to be paid by 1 April.
-fn debt(amount: u32, paid_by: Option<Minute>) -> Debt {
-    Debt {
-        week: Week::new(2826),
-        amount,
-        deadline: at(32, 0),
-        paid_by,
-    }
+    month(b"2024-03")
 }
 
 /// Returns a report with these breaches.

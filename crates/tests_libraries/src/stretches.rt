@@ -1,9 +1,10 @@
+use crate::march::line_of;
 use crate::same::assert_same;
 use std::alloc::{AllocError, Global};
 use std::process::Abort;
 use std::test::Fail;
 use tacho_law::{Breach, Debt, Kind};
-use tacho_line::{Cause, Horizon, Line, LineFault};
+use tacho_line::{Cause, Horizon, Line};
 use tacho_rules::can_be_examined;
 use tacho_stretches::{Stretch, StretchPass, range_of, stretches};
 use tacho_time::Activity::{Drive, Rest, Work};
@@ -207,16 +208,6 @@ fn spans_of(alloc: Global, pieces: &[Piece]) -> Result<Vec<Span>, AllocError> {
         spans.push(span(at(start), at(past), activity, crew))?;
     }
     Ok(spans)
-}
-
-/// Returns a line that holds these spans.
-fn line_of(alloc: Global, spans: &[Span]) -> Result<Line, LineFault> {
-    let mut line = Line::empty(alloc);
-    let gains = line.gains(alloc, spans)?;
-    if line.add(&gains).is_err() {
-        return Err(LineFault::Memory);
-    }
-    Ok(line)
 }
 
 /// Returns the stretches of a line from a base on.

@@ -1,5 +1,3 @@
-ghost use Rattle.std.specs.Prelude.{◌≤◌};
-
 use crate::same::assert_same;
 use std::test::Fail;
 use tacho_time::{
