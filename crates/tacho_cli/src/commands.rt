@@ -1,8 +1,8 @@
-ghost use Rattle.std.specs.Prelude.{◌≡◌, ◌≤◌, ◌⊎◌, Err, None, Some, length, false, IfOk, MatchResult, string_bytes};
+ghost use Rattle.std.specs.Prelude.{◌≡◌, ◌≤◌, ◌⊎◌, Err, None, length, false, MatchResult, string_bytes};
 ghost use Rattle.tacho_card.specs.declared.fault.CardFault.TheVariants.{Memory};
 ghost use Rattle.tacho_state.specs.Content.{FileTells};
 ghost use Rattle.tacho_desk.specs.Words.{part_of as part_named};
-ghost use Rattle.tacho_cli.specs.Card.{IsCard, IsCardBy, IsListed, no_part_reply};
+ghost use Rattle.tacho_cli.specs.Card.{IsCard, IsListed, no_part_reply};
 ghost use Rattle.tacho_cli.specs.Command.{Finishes, IsWrittenOut, card_reply};
 ghost use Rattle.tacho_cli.specs.Dump.{IsDump, IsDumped, ReadsValue};
 ghost use Rattle.tacho_cli.specs.Holder.{IsHolder};

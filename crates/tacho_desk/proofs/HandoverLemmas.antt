@@ -1,5 +1,5 @@
 -- A driver's card files, which are read one after the other from the newest on.
-use Rattle.std.proofs.Common.{◌≡◌, ◌∙◌, ℕ, zero, suc, ◌+◌, ◌*◌, ◌<◌, List, [], ◌∷◌, ◌++◌, Option, Some, None, Result, Ok, Err, ap, arith, codes, drop, get_or, length, map, refl, subst, sym}
+use Rattle.std.proofs.Common.{◌≡◌, ◌∙◌, ℕ, ◌+◌, ◌*◌, ◌<◌, List, [], ◌∷◌, ◌++◌, Option, Some, None, Result, Ok, Err, ap, arith, codes, drop, get_or, length, map, refl, subst, sym}
 use Rattle.std.specs.List.{All, filter, flat_map}
 use Rattle.std.specs.Prelude.{IfErr, IfSome}
 use Rattle.tacho_time.specs.declared.span.Span.{Span}

@@ -2,7 +2,7 @@
 use Rattle.std.proofs.Common.{◌≡◌, ◌⊎◌, Bool, List, Result, Ok, Err, ap, rules}
 use Rattle.std.specs.Prelude.{IsErrAnd}
 use Rattle.tacho_state.specs.State.{State}
-use Rattle.tacho_state.proofs.ReadLemmas.{IsSameAsItself, StaysSame}
+use Rattle.tacho_state.proofs.ReadLemmas.{IsSameAsItself}
 use Rattle.tacho_desk.specs.Doing.{Doing, Serves}
 use Rattle.tacho_sheet.specs.Fault.{IsFailure}
 use Rattle.tacho_desk.specs.Told.{Answer, answer_of}

@@ -38,18 +38,6 @@ pub members_stay : (members : List Member) (old new : Parcel) → new.tar ≡ ol
     → HasMembers members new
 members_stay members old new tar lines has = record { tar = tar ∙ has.tar; lines = lines ∙ has.lines; plain = has.plain }
 
--- none yet
-pub none_yet : (holder : List ℕ) (i : ℕ) (p : Parcel) → p.held ≡ [] → p.tar ≡ [] → p.lines ≡ [] → HasFiles holder i [] p
-none_yet holder i p held tar lines = record {
-  handed = [];
-  are = refl;
-  held = λ m mark. (
-    λ h. (let none : Holds [] m mark = subst (λ (xs : List Span). Holds xs m mark) held h in cc),
-    λ given. absurd given.1,
-  );
-  members = record { tar = tar; lines = lines; plain = All-nil IsMember };
-}
-
 module _ (holder : List ℕ) (i : ℕ) (newer : List Download) (d : Download) (spans : List Span) (has : HasSpans d spans) (old new : Parcel)
     (files : HasFiles holder (i + 1) newer old) (start : new.start ≡ old.start) (past : new.past ≡ old.past)
     (holds : SamePairs (Holds new.held) (GivenBeside old.held old.start old.past spans)) where

@@ -1,4 +1,4 @@
-ghost use Rattle.std.specs.Prelude.{◌≡◌, ◌≤◌, ◌+◌, ◌-◌, ◌++◌, ℕ, List, IfOk, OnOk, IfErr, drop, filter, flat_map, length, map, string_bytes, take};
+ghost use Rattle.std.specs.Prelude.{◌≡◌, ◌≤◌, ◌+◌, ◌++◌, List, IfOk, OnOk, drop, filter, flat_map, length, string_bytes, take};
 ghost use Rattle.arrayvec.specs.ArrayVec.{array_vec_len};
 ghost use Rattle.tacho_line.specs.declared.gap.Gap.{Gap as GapValue};
 ghost use Rattle.tacho_line.specs.Line.{AreGaps};

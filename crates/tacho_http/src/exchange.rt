@@ -10,7 +10,7 @@ use crate::checks::by_key;
 use crate::pages::{file_at, page};
 use crate::places::Routes;
 use crate::response::{Response, fixed};
-use httparse::spans::{EMPTY_HEADER_SPAN, HeaderSpan};
+use httparse::spans::EMPTY_HEADER_SPAN;
 use std::alloc::Global;
 use tacho_message::{HeadFault, PageFile, Status, read_head, request_of, write_reply};
 use tacho_state::Keeper;

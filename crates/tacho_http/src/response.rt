@@ -2,7 +2,7 @@ ghost use Rattle.std.specs.Prelude.{◌≡◌};
 ghost use Rattle.tacho_desk.specs.Told.{answer_of};
 ghost use Rattle.tacho_http.specs.Reply.{body_bytes, fault_reply, fault_status, media_of as media_of_want, reply_of_status as fixed_reply, reply_of, reply_to, store_status};
 
-use tacho_desk::{Fault, MonthReading, Reading, Text, Want};
+use tacho_desk::{Fault, MonthReading, Text, Want};
 use tacho_message::{MediaType, Status};
 use tacho_sheet::{FaultLine, fault_line};
 use tacho_state::StoreFault;

@@ -113,10 +113,3 @@ refuse_unread limit room (Some all) = record { input = all; told = refl; refused
 pub refused_unread : (limit room : ℕ) (known : Option (List ℕ)) (result : Result Head HeadFault) → IsErrAnd result (λ f. f ≡ Read) → IfErr result (IsRefused limit room known)
 refused_unread limit room known (Ok head) h = tt
 refused_unread limit room known (Err f) h = subst (IsRefused limit room known) (sym h) (refuse_unread limit room known)
-
--- if a read fails, what came is no head yet
-pub unfinished : (limit : ℕ) (known left after : Option (List ℕ)) (came : List ℕ)
-    → length came < limit → Consumes known left came → Keeps left after
-    → HasNoRequest came → MayBecomeRequest came → IsUnfinished limit known after
-unfinished limit known left after came lt cut keeps none more =
-    record { given = came; came = consumed_kept known left after came cut keeps; short = lt; none = none; more = more }

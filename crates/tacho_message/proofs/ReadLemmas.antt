@@ -79,12 +79,6 @@ pub ended_short : (known left after : Option (List ℕ)) (buf : List ℕ) (at : 
 ended_short known left after buf at h x y e =
     record { left = take at buf; told = ended_begins (take at buf) known left after x y e; short = front_length buf at h }
 
--- if a read fails, fewer bytes came than the buffer has
-pub failed_short : (known left after : Option (List ℕ)) (buf : List ℕ) (at : ℕ) → at < length buf → Consumes known left (take at buf)
-    → Keeps left after → Lacks [] known after (length buf)
-failed_short known left after buf at h x keeps =
-    record { given = take at buf; came = consumed_kept known left after (take at buf) x keeps; short = front_length buf at h }
-
 -- ---- a body
 
 -- the body consists of what came after the head, and of what was read then

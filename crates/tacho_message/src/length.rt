@@ -1,6 +1,6 @@
 ghost use Rattle.std.specs.Prelude.{◌≡◌, All, length, map};
 ghost use Rattle.httparse.specs.Spans.{header_bytes, IsHeaderWithin};
-ghost use Rattle.tacho_message.specs.Length.{body_length, body_told, body_within, post_length};
+ghost use Rattle.tacho_message.specs.Length.{body_length, body_within, post_length};
 ghost use Rattle.tacho_message.specs.Fields.{length_told};
 
 use crate::fields::{Values, length_of, values_of};

@@ -28,9 +28,6 @@ pub record IsCutSoFar (first past : ℕ) (before : List ℕ) (start : ℕ) (afte
   pub cut : (rest : List Gap) → AreCut start past rest → AreCut first past (done ++ rest)
   pub is : after ≡ before ++ flat_map form_row done
 
-pub cut_none : (first past : ℕ) (before : List ℕ) → IsCutSoFar first past before first before
-cut_none first past before = record { done = []; cut = λ rest cut. cut; is = sym (append-nil before) }
-
 -- rows, and one more row
 rows_more : (before after new : List ℕ) (rows : List Gap) (r : Gap) → after ≡ before ++ flat_map form_row rows → new ≡ after ++ form_row r
     → new ≡ before ++ flat_map form_row (rows ++ r ∷ [])

@@ -193,10 +193,6 @@ count_gaps p (g ∷ gaps) from end order (long, after, apart) within some none =
     later g (x ∷ xs) after (long, next, apart) m (inl here) = (let l = here.0 in omega (arith, l, after))
     later g (x ∷ xs) after (long, next, apart) m (inr there) = (let l = later x xs next apart m there in omega (arith, l, after, long))
 
-is_none : (o : Option Mark) → is_lacking o ≡ true → o ≡ None
-is_none None e = refl
-is_none (Some mark) e = absurd (let wrong = e in cc)
-
 lacks : (o : Option Mark) → ¬ (o ≡ None) → is_lacking o ≡ false
 lacks None some = absurd (some refl)
 lacks (Some mark) some = refl

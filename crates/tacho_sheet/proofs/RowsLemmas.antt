@@ -78,16 +78,6 @@ outlook_pieces start cells a b c d t t1 t2 t3 e1 e2 e3 =
 
 -- ---- the month before
 
-pub after_month : (month before : ℕ) (stretches : List Judged) (n : ℕ) → before + 1 ≡ month → 24000 ≤ before → IsCountIn before stretches n
-    → IsCountBefore month stretches n
-after_month month before stretches n next first is = go (nat_eq month 24000) refl where
-  go : (b : Bool) → nat_eq month 24000 ≡ b → IsCountUnless b month stretches n
-  go true e = absurd (let same : month ≡ 24000 = grind (arith, nat_tests) in omega (arith, next, first, same))
-  go false e = let back : before ≡ month - 1 = omega (arith, next) in subst (λ (m : ℕ). IsCountIn m stretches n) back is
-
-pub no_month : (month : ℕ) (stretches : List Judged) (n : ℕ) → month ≡ 24000 → n ≡ 0 → IsCountBefore month stretches n
-no_month month stretches n first is = subst (λ (m : ℕ). IsCountBefore m stretches n) (sym first) is
-
 -- ---- how a driver stands
 
 -- the end of what is held, as it is computed

@@ -3,7 +3,7 @@ use Rattle.std.proofs.Common.{◌≡◌, ◌≢◌, ◌∙◌, ℕ, List, [], �
 use Rattle.std.specs.List.{All}
 use Rattle.std.proofs.lemmas.List.{same_from_push}
 use Rattle.std.proofs.lemmas.List.Elements.{All-contains, Contains-push}
-use Rattle.tacho_state.specs.Limits.{IsKey, IsKeyByte, IsName, IsNameByte}
+use Rattle.tacho_state.specs.Limits.{IsKeyByte, IsNameByte}
 use Rattle.tacho_sheet.specs.Cut.{IsCut}
 use Rattle.tacho_sheet.specs.Driver.{IsKeyText, IsNameText}
 use Rattle.tacho_sheet.specs.Value.{IsKeyLine, IsNameLine, IsLine}
@@ -11,12 +11,6 @@ use Rattle.tacho_sheet.specs.Value.{IsKeyLine, IsNameLine, IsLine}
 -- CR LF is LF after CR
 two : (xs : List ℕ) → xs ++ 13 ∷ 10 ∷ [] ≡ (xs ++ 13 ∷ []) ++ 10 ∷ []
 two xs = sym (append_assoc xs (13 ∷ []) (10 ∷ []))
-
--- a text whose end was cut off is a line with what is left
-pub cut_is_line : (text line : List ℕ) → IsCut text line → IsLine text line
-cut_is_line text line (inl both) = inr (inr both)
-cut_is_line text line (inr (inl (lf, other))) = inr (inl lf)
-cut_is_line text line (inr (inr (same, other))) = inl same
 
 -- values of bytes that have neither LF nor CR
 module _ (Byte : ℕ → Type 0) (not_lf : ¬ Byte 10) (not_cr : ¬ Byte 13) where

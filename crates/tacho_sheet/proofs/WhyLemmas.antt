@@ -160,13 +160,6 @@ written_more line start past xs i x before after why within is written e w =
     (subst (λ (ys : List Judged). AreWritten line start past ys (before ++ why)) (sym (told_more xs i x within is))
     (one_more_written line start past (map judged_of (take i xs)) (judged_of x) before why written w))
 
--- a stretch is among those so far, or it is the next one
-pub among_more : (xs : List Stretch) (i : ℕ) (x : Stretch) → i < length xs → x ≡ get_or xs i x → (s : Judged)
-    → Contains (map judged_of (take (i + 1) xs)) s → Contains (map judged_of (take i xs)) s ⊎ (judged_of x ≡ s)
-among_more xs i x within is s among =
-    Contains-push_cases (map judged_of (take i xs)) (judged_of x) s
-    (subst (λ (ys : List Judged). Contains ys s) (told_more xs i x within is) among)
-
 -- an item of a list is among what is told of it
 pub among_told : (xs : List Stretch) (i : ℕ) (x : Stretch) → i < length xs → x ≡ get_or xs i x → Contains (map judged_of xs) (judged_of x)
 among_told xs i x within is =

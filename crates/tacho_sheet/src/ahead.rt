@@ -1,6 +1,6 @@
 //! The forecast for a driver.
 
-ghost use Rattle.std.specs.Prelude.{◌≡◌, ◌⊎◌, ◌++◌, ◌+◌, ◌≤◌, ◌↔◌, ℕ, List, IfOk, IfSome, IsTrue, OnOk, None, Ok, Err, map, string_bytes};
+ghost use Rattle.std.specs.Prelude.{◌≡◌, ◌⊎◌, ◌++◌, ◌+◌, ◌≤◌, ℕ, List, IfOk, IfSome, OnOk, None, Ok, Err, map, string_bytes};
 ghost use Rattle.tacho_time.specs.Limits.{greatest_minute};
 ghost use Rattle.tacho_time.specs.declared.fault.TimeFault.TheVariants.{OutOfRange};
 ghost use Rattle.tacho_time.specs.declared.span.Span.{Span as SpanValue};

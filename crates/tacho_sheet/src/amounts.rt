@@ -1,4 +1,4 @@
-ghost use Rattle.std.specs.Prelude.{◌≡◌, ◌+◌, ◌-◌, ◌*◌, ◌<◌, ◌≤◌, ◌^◌, IfOk, None, Some};
+ghost use Rattle.std.specs.Prelude.{◌≡◌, ◌+◌, ◌-◌, ◌*◌, ◌<◌, ◌≤◌, ◌^◌, IfOk};
 ghost use Rattle.tacho_time.specs.declared.span.Activity.TheVariants.{Rest as RestOf, Available as AvailableOf, Work as WorkOf, Drive as DriveOf};
 ghost use Rattle.tacho_sheet.specs.Reports.{is_single_minute, is_crew, is_lacking};
 ghost use Rattle.tacho_sheet.specs.Amounts.{AreAmounts, AreFrom, all_or_none, whole};

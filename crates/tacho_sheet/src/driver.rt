@@ -4,7 +4,7 @@ ghost use Rattle.csv.specs.Records.{fields_of};
 ghost use Rattle.hex.specs.Hex.{IsBytes, encode_lower};
 ghost use Rattle.tacho_state.specs.Limits.{IsKey, IsName};
 ghost use Rattle.tacho_state.specs.Registration.{IsRegistration};
-ghost use Rattle.tacho_sheet.specs.Driver.{Columns, IsNoHolderText, IsColumnFault, IsDriverText, IsKeyText, IsNameText, IsRowAnswer, IsBodyAnswer, IsDriverRead, columns_of, is_driver_head, is_driver_head_of};
+ghost use Rattle.tacho_sheet.specs.Driver.{Columns, IsNoHolderText, IsColumnFault, IsDriverText, IsKeyText, IsNameText, IsRowAnswer, IsBodyAnswer, IsDriverRead, columns_of, is_driver_head};
 ghost use Rattle.tacho_sheet.specs.Rows.{IsReaderFault};
 
 use crate::fault::SheetFault;

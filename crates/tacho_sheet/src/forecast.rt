@@ -1,6 +1,6 @@
 //! The forecast for all drivers.
 
-ghost use Rattle.std.specs.Prelude.{◌≡◌, ◌++◌, ◌/◌, [], ◌∷◌, ℕ, List, IfOk, IfSome, IsTrue, OnOk, None, Ok, codes, decimal, map, string_bytes};
+ghost use Rattle.std.specs.Prelude.{◌≡◌, ◌++◌, ◌/◌, [], ◌∷◌, ℕ, List, IfOk, IfSome, OnOk, None, Ok, codes, decimal, map, string_bytes};
 ghost use Rattle.tacho_time.specs.Limits.{greatest_minute};
 ghost use Rattle.tacho_time.specs.Text.{day_text};
 ghost use Rattle.tacho_time.specs.declared.span.Span.{Span as SpanValue};

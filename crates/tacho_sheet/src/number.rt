@@ -1,4 +1,4 @@
-ghost use Rattle.std.specs.Prelude.{◌≡◌, ◌≤◌, decimal, MatchOption};
+ghost use Rattle.std.specs.Prelude.{MatchOption};
 ghost use Rattle.tacho_sheet.specs.Number.{IsNumberText, HasNoNumber};
 
 /// Reads a decimal number from 1 to `most`, without leading zeros.
