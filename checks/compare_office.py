@@ -622,6 +622,36 @@ def of_outputs(program):
             yield desk.tables(f"{name}, after readings")
 
 
+# Keys by their lengths. Others may guess those of fewer than 20 characters.
+KEYS = ["k" * length for length in (8, 19, 20, 64)]
+
+
+def warned_by(desk: Desk, words: Sequence[str], given: bytes) -> tuple[str, bytes]:
+    """What a command prints, and all that it prints on standard error."""
+    run = subprocess.run(desk.words(words), input=given, capture_output=True)
+    return run.stdout.decode(errors="backslashreplace"), run.stderr
+
+
+def of_short_keys(program: str) -> counting.Comparisons:
+    """The comparisons of the sentences after a driver was given a key: there is one exactly if the key is short."""
+    for key in KEYS:
+        with tempfile.TemporaryDirectory() as folder:
+            desk = Desk(program, folder)
+            desk.prepare([(["register"], office_rows.BERT)])
+            given = office_rows.ANNA.replace(b"anna-key-1", key.encode())
+            warning = advice.lines_on(desk.path.encode(), [advice.SHORT_KEY])[0] if len(key) < 20 else b""
+            yield f"register with a key of {len(key)}", warned_by(desk, ["register"], given), ("registered 17\n", warning)
+            desk.office.answer(["register"], given)
+            for words, line in [("key 18", key.encode() + b"\n"), ("register", given), ("key 19", b"another-key"), ("key 18", b"short")]:
+                refused = desk.both(words.split(), line)
+                yield f"{words} is refused, beside a key of {len(key)}", *refused
+            other = key[:-1].encode() + b"x"
+            yield f"a key of {len(key)}", warned_by(desk, ["key", "18"], other), ("key 18\n", warning)
+            desk.office.answer(["key", "18"], other)
+            yield f"a name beside a key of {len(key)}", *desk.both(["name", "18"], b"Bert Lund")
+            yield desk.tables(f"a key of {len(key)}")
+
+
 def of_inputs(program):
     """The comparisons of an input that can't be read, since it is a folder: nothing changes."""
     with tempfile.TemporaryDirectory() as folder:
@@ -705,7 +735,9 @@ def of_terminals(program):
         desk.prepare(WITH_ANNA)
         for words, typed in [("drivers", b""), ("key 17", b"anna-key-3\n"), ("breaches 17", b"")]:
             text, _ = desk.office.answer(words.split(), typed)
-            yield f"at a terminal: {words}", at_terminal(desk.words(words.split()), typed), (text, READS if typed else b"")
+            shown, errors = at_terminal(desk.words(words.split()), typed)
+            left = without_known(desk.path.encode(), [advice.SHORT_KEY] if typed else [], errors)
+            yield f"at a terminal: {words}", (shown, left), (text, READS if typed else b"")
         yield "at a terminal: key from elsewhere", READS in at_terminal(desk.words(["key", "17"]))[1], False
         yield desk.tables("at a terminal")
         large = os.path.join(folder, "large.db")
@@ -750,7 +782,8 @@ def of_sentences():
     sources = [os.path.join(TOP, "crates", *path) for path in (("tacho", "src", "advice.rt"), ("tacho_disk", "src", "cause.rt"))]
     texts = {text for path in sources for text in re.findall(r'"((?:[^"\\]|\\.)*)"', read(path).decode())}
     found = {text for text in texts if " " in text and not re.search(r"[\\{}]", text)}
-    yield "the sentences in docs/FORMATS.md", sorted(set().union(*advice.sentences().values())), sorted(found)
+    yield "the sentences in docs/FORMATS.md", sorted(advice.all_sentences()), sorted(found)
+    yield "the sentence on short keys", advice.SHORT_KEY in " ".join(read(os.path.join(TOP, "docs", "FORMATS.md")).decode().split()), True
 
 
 # Cards
@@ -876,8 +909,8 @@ def comparisons(program: str) -> counting.Comparisons:
     program = os.path.abspath(program)
     questions: list[tuple[Any, ...]] = [(of_rows, program, name) for name in office_rows.ROWS]
     questions += [(part, program) for part in [
-        of_examples, of_arguments, of_kinds, of_files, of_folders, of_terminals, of_servers, of_rights, of_outputs, of_inputs, of_cards,
-        of_bits]]
+        of_examples, of_arguments, of_kinds, of_files, of_folders, of_terminals, of_servers, of_rights, of_outputs, of_short_keys, of_inputs,
+        of_cards, of_bits]]
     questions += [(of_carry, program, name, carry) for name, carry in office_rows.CARRIES.items()]
     questions += [(of_rows_carried, program, name) for name in ROWS_OF_NEW]
     questions += [(part, program) for part in [

@@ -24,7 +24,7 @@ from typing import Any
 
 from inputs import random_commands, random_requests
 from lib import counting, files, killing, office_lines
-from lib.advice import without_begun, without_sentence
+from lib.advice import without_advice, without_begun
 from lib.archive import of_tables, rows_of, rows_of_office, tables
 from lib.office import CREATED, ENDINGS, STORE_FAILED, Desk, copy_of, name_of
 from lib.server import ENDED, Serving, received, sent
@@ -87,7 +87,8 @@ class KilledDesk(Desk):
             self.wait(running, seconds, count)
             killing.end(running)
         text, errors, status = (*(files.content(os.path.join(self.aside, name)) for name in ("output", "errors")), running.returncode)
-        left = without_begun(self.path, errors) if status == KILLED else without_sentence(self.path.encode(), text, status, errors)
+        line = ["tacho", words[0], self.path, *words[1:]]
+        left = without_begun(self.path, errors) if status == KILLED else without_advice(line, text, status, errors)
         return text + left, status
 
     def served(self, path, requests, key, watching):

@@ -28,6 +28,7 @@ from lib.office_rows import ANNA, CREW_DAY, DAY, HOLDER, OTHER_DAY
 from lib.proxy import OPENED, Proxy
 
 KEY = "office-key-1"
+ANNA_KEY = "G7wq2LmXv9RkT4bZc8Nd"  # as in the page
 ROW = re.compile(r"^\| (.*) \|$", re.MULTILINE)
 
 # `systemctl start` and `stop` do what the unit says; of others nothing is wanted. `install` gives nobody else a file.
@@ -223,7 +224,7 @@ class Office:
 
     def told_by_key(self, path):
         """What the server replies to the driver."""
-        ask = ["curl", "-sS", "-H", "x-key: anna-key-1", f"http://127.0.0.1:{self.port}{path}"]
+        ask = ["curl", "-sS", "-H", f"x-key: {ANNA_KEY}", f"http://127.0.0.1:{self.port}{path}"]
         return subprocess.run(ask, capture_output=True, env=self.environment).stdout.decode()
 
     def typed(self, beginning, printed, status=0):
@@ -736,7 +737,7 @@ def asked_key(office):
     yield "the file of the key by a request", (re.fullmatch("[a-zA-Z0-9]{32}", key) is not None, mode(office.path("17.key"))), (True, 0o600)
     ask = f"curl -sS -o /dev/null -w '%{{http_code}}' -H 'x-key: {key}' http://127.0.0.1:8017/me/owed"
     yield "the driver by their new key", office.type(ask), ("200", 0)
-    again = "printf anna-key-1 | curl -sS -H @office.head --data-binary @- http://127.0.0.1:8017/drivers/17/key"
+    again = f"printf {ANNA_KEY} | curl -sS -H @office.head --data-binary @- http://127.0.0.1:8017/drivers/17/key"
     yield "the key before", office.type(again), ("key 17\n", 0)
 
 
@@ -831,7 +832,7 @@ def proxied(office: Office) -> counting.Comparisons:
         address = f"https://127.0.0.1:{proxy.port}"
         yield from by_proxy(office, address, "with uploads open", b"repeated driver 17\n200")
         owed = f"{address}/me/owed"
-        told = statuses(600, "-H", "x-key: anna-key-1", owed)
+        told = statuses(600, "-H", f"x-key: {ANNA_KEY}", owed)
         yield "who asks too often", (told[:150], sorted({*told})), (["200"] * 150, ["200", "429"])
         office.type("systemctl stop tacho")
         told = "429"
@@ -855,7 +856,7 @@ def statuses(count: int, *options: str) -> list[str]:
 
 def by_proxy(office: Office, address: str, name: str, taken: bytes) -> counting.Comparisons:
     """Requests to a proxy. `taken` is the end of what it replies to a card file, and the status."""
-    ask = ["curl", "-sk", "--retry", "20", "--retry-connrefused", "--retry-delay", "1", "-w", "%{http_code}", "-H", "x-key: anna-key-1"]
+    ask = ["curl", "-sk", "--retry", "20", "--retry-connrefused", "--retry-delay", "1", "-w", "%{http_code}", "-H", f"x-key: {ANNA_KEY}"]
     for path, wanted in [("/me/owed", office.told_by_key("/me/owed") + "200"), ("/drivers/17/owed", None), ("/office/", None)]:
         told = subprocess.run([*ask, f"{address}{path}"], capture_output=True).stdout.decode()
         yield f"{path} by the proxy {name}", told if wanted else told[-3:], wanted or "404"

@@ -9,9 +9,15 @@ from lib.files import TOP
 # Commands without an archive, or that look at another input before it: their faults have no sentence. A check prints what is unsound.
 WITHOUT = {b"dump", b"holder", b"card", b"serve", b"listen"}
 
+# Commands that give a driver a key.
+GIVE_KEYS = {b"register", b"key"}
+
 # The line of a fault: its code, or that the store failed.
 CODE = re.compile(rb"^([CEMNPSXZ]\d+) .*\n\Z", re.MULTILINE)
 
+
+# What `register` and `key` print after they have given a driver a key that others may guess.
+SHORT_KEY = "others may guess a key of fewer than 20 characters; make one of 32 random letters and digits"
 
 # What a line of the table has in the place of the fault's line where the sentence is on the new archive of `carry`.
 OF_NEW = "the new archive of `carry`"
@@ -75,6 +81,8 @@ def without_advice(words: Sequence[str | bytes], text: bytes, status: int, error
     if len(bytes_of) < 3 or bytes_of[1] in WITHOUT:
         return errors
     path, *others = values_of(bytes_of[2:]) or [b""]
+    if status == 0 and bytes_of[1] in GIVE_KEYS:
+        return without_known(path, [SHORT_KEY], errors)
     left = without_known(others[0], of_new(), errors) if bytes_of[1] == b"carry" and others else errors
     if text.startswith(b"S12 ") and left != errors:
         return left
@@ -94,5 +102,5 @@ def without_begun(path: str, errors: bytes) -> bytes:
 
 
 def all_sentences() -> set[str]:
-    """All sentences of the table."""
-    return set().union(*sentences().values())
+    """All sentences of the table, and the one on short keys."""
+    return {SHORT_KEY}.union(*sentences().values())

@@ -29,6 +29,13 @@ pub const NOT_MADE: &str =
 pub const NOT_CARRIED: &str =
     "it cannot be read whole, or the new archive cannot be written; tacho check reads all of it";
 
+/// The bytes below which others may guess a driver's key.
+pub const SAFE_KEY: usize = 20;
+
+/// The sentence after a command that gave a driver a key which others may guess.
+pub const SHORT_KEY: &str =
+    "others may guess a key of fewer than 20 characters; make one of 32 random letters and digits";
+
 /// The sentence for a fault. docs/FORMATS.md lists them, 'All lines of faults'.
 pub fn advice_on(fault: Fault) -> &'static str {
     match fault {

@@ -1,23 +1,24 @@
 //! The file of an archive, and the jobs that are done there.
 //!
 //! Functions on an archive are generic over its store, and take and return the connection by value. Only `open_file` and `at_file` name the
-//! file's store: there each call of a function that is generic over a store is proved again, which takes 15 to 50 times as long.
+//! file's store: there each call of a function that is generic over a store is proved again, which takes 15 to 50 times as long. The jobs
+//! aren't inlined, so that the stack holds the variables of one job alone.
 
 ghost use Rattle.std.specs.Prelude.{◌≡◌, false};
 
-use crate::advice::{LOST, NO_PORT, advice_on};
+use crate::advice::{LOST, NO_PORT, SAFE_KEY, SHORT_KEY, advice_on};
 use sqlite::{Alter, Connection, Error, ErrorCode, File, FileStore};
 use std::alloc::Global;
 use std::fs;
 use std::io::IsTerminal;
 use tacho_check::{Unsound, check, check_text};
 use tacho_cli::{CardFiles, DeskJob, answer_at_desk, import_files, read_input, tell_answer};
-use tacho_desk::{Fault, part_of};
+use tacho_desk::{Fault, Text, Want, part_of};
 use tacho_disk::{NotOwned, Watched, cause_of, make_own, own_place};
 use tacho_http::PageFile;
 use tacho_pages::page_files;
 use tacho_serve::{Place, ServeFault, listen, serve};
-use tacho_state::StoreFault;
+use tacho_state::{Keeper, StoreFault};
 use tacho_store::Archive;
 use tacho_time::Device;
 
@@ -84,6 +85,7 @@ fn tell(rt: &HostRuntime, ending: &Ending) -> u8 {
 }
 
 /// `tacho init`: makes an archive without drivers.
+#[inline(never)]
 fn create_archive<S: Alter + Drop>(conn: Connection<S>) -> (Ending, Connection<S>)
     requires { conn.in_transaction ≡ false }
 {
@@ -94,6 +96,7 @@ fn create_archive<S: Alter + Drop>(conn: Connection<S>) -> (Ending, Connection<S
 }
 
 /// `tacho migrate`: migrates an archive of schema 1 to schema 2.
+#[inline(never)]
 fn migrate_archive<S: Alter + Drop>(conn: Connection<S>) -> (Ending, Connection<S>)
     requires { conn.in_transaction ≡ false }
 {
@@ -105,6 +108,7 @@ fn migrate_archive<S: Alter + Drop>(conn: Connection<S>) -> (Ending, Connection<
 
 /// `tacho check`: reads all rows of an archive of schema 2, and prints whether they represent a state. A check leaves no connection to close:
 /// it changes nothing, so there is nothing to write back.
+#[inline(never)]
 fn check_archive<S: Alter + Drop>(
     rt: &HostRuntime,
     conn: Connection<S>,
@@ -140,6 +144,7 @@ fn tell_found(rt: &HostRuntime, found: Option<Unsound>) -> Ending {
 }
 
 /// Does a job at an existing archive, with standard input and output.
+#[inline(never)]
 fn do_task<S: Alter + Drop>(
     rt: &HostRuntime,
     conn: Connection<S>,
@@ -155,7 +160,37 @@ fn do_task<S: Alter + Drop>(
     let mut writer = Device::new(rt.stdout());
     let answer = answer_at_desk(rt.alloc(), job, &mut archive, &mut reader);
     let status = tell_answer(&mut writer, &answer);
+    if let Ok(text) = &answer {
+        advise_on_key(rt, &mut archive, job, text);
+    }
     (Ending::Told(status, answer.err()), archive.close())
+}
+
+/// The number at the end of a line.
+fn last_number(line: &[u8]) -> Option<u32> {
+    let (_, number) = str::from_utf8(line).ok()?.trim_end().rsplit_once(' ')?;
+    number.parse().ok()
+}
+
+/// Writes a sentence for a person on standard error, if a command gave a driver a key which others may guess. The driver's number ends what the
+/// command printed.
+fn advise_on_key<S: Alter + Drop>(
+    rt: &HostRuntime,
+    archive: &mut Archive<S>,
+    job: DeskJob<'_>,
+    told: &Text,
+) {
+    if !matches!(job.wish.want, Want::Register | Want::Key) {
+        return;
+    }
+    let Some(driver) = last_number(told.bytes()) else {
+        return;
+    };
+    if let Ok(key) = archive.key(rt.alloc(), driver)
+        && key.len() < SAFE_KEY
+    {
+        let _ = eprint!(rt; "tacho: {}: {SHORT_KEY}\n", job.archive);
+    }
 }
 
 /// The card files of the file system.
@@ -176,6 +211,7 @@ impl CardFiles for Cards<'_> {
 }
 
 /// `tacho import` with files: imports each at an existing archive.
+#[inline(never)]
 fn import_all<S: Alter + Drop>(
     rt: &HostRuntime,
     conn: Connection<S>,
@@ -221,6 +257,7 @@ fn show_address(rt: &HostRuntime, port: u16) {
 
 /// `tacho serve`, and `tacho listen` with the page files: answers `count` connections on a port of 127.0.0.1, at an existing archive. Once its
 /// files are lost no connection is left to close, so that nothing is written to what is in their place.
+#[inline(never)]
 fn serve_requests<S: Alter + Drop>(
     rt: &HostRuntime,
     conn: Connection<S>,
