@@ -1,5 +1,5 @@
 #!/usr/bin/env python3
-"""Runs each command with a stack of 256 KB, on the example of a year and on short ones, and requests to a server, and compares what they
+"""Runs each command with a stack of 192 KB, on the example of a year and on short ones, and requests to a server, and compares what they
 print with the slow office and the slow server: a program that needs more stack crashes.
 
 Argument: the program. The last line is 'N passed, M failed'."""
@@ -18,7 +18,7 @@ from lib.office_rows import MORNING
 from lib.server import ENDED, OFFICE, Serving, asking, posting
 from slow import slow_server
 
-KILOBYTES = 256
+KILOBYTES = 192
 EXAMPLES = os.path.join(TOP, "examples")
 WITHOUT_ARCHIVE = [(["dump"], "driver-year.0504"), (["holder"], "driver-year.ddd"), (["card", "both"], "driver-year.ddd")]
 NEW = "new.db"

@@ -34,7 +34,9 @@ pub(crate) fn row_reader(alloc: Global, text: &[u8]) -> Reader<&[u8]>
         .from_reader(alloc, text)
 }
 
-/// Reads every record of a text, including its head, after a byte order mark is removed.
+/// Reads every record of a text, including its head, after a byte order mark is removed. It isn't inlined, so that the reader's buffers of
+/// 8 KB are on the stack only until it returns.
+#[inline(never)]
 pub(crate) fn read_rows(alloc: Global, text: &[u8]) -> Result<Vec<ByteRecord>, SheetFault>
     ensures fault { IfErr result IsReaderFault }
     ensures rows { IfOk result (λ v. AreRecords default_config st.StartRecord (strip_bom text.now) (map fields_of v.items)) }
