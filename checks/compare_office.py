@@ -909,8 +909,8 @@ def comparisons(program: str) -> counting.Comparisons:
     program = os.path.abspath(program)
     questions: list[tuple[Any, ...]] = [(of_rows, program, name) for name in office_rows.ROWS]
     questions += [(part, program) for part in [
-        of_examples, of_arguments, of_kinds, of_files, of_folders, of_terminals, of_servers, of_rights, of_outputs, of_short_keys, of_inputs,
-        of_cards, of_bits]]
+        of_examples, of_arguments, of_kinds, of_files, of_folders, of_terminals, of_servers, of_rights, of_outputs, of_short_keys,
+        of_inputs, of_cards, of_bits]]
     questions += [(of_carry, program, name, carry) for name, carry in office_rows.CARRIES.items()]
     questions += [(of_rows_carried, program, name) for name in ROWS_OF_NEW]
     questions += [(part, program) for part in [
