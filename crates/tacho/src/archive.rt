@@ -172,8 +172,8 @@ fn last_number(line: &[u8]) -> Option<u32> {
     number.parse().ok()
 }
 
-/// Writes a sentence for a person on standard error, if a command gave a driver a key which others may guess. The driver's number ends what the
-/// command printed.
+/// Writes a sentence for a person on standard error, if a command gave a driver a key which others may guess. What it printed ends with the
+/// driver's number.
 fn advise_on_key<S: Alter + Drop>(
     rt: &HostRuntime,
     archive: &mut Archive<S>,
@@ -301,6 +301,7 @@ fn serve_requests<S: Alter + Drop>(
 
 /// Does the work at the archive of a connection to the file with this path, which has no links. Returns the connection, unless the work was a
 /// check, or the files are lost.
+#[inline(never)]
 fn at_connection<S: Alter + Drop>(
     rt: &HostRuntime,
     conn: Connection<S>,

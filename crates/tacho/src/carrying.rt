@@ -217,6 +217,7 @@ fn refuse_day(rt: &HostRuntime, path: &str, fault: &Fault) -> u8 {
 
 /// Reads the day, and carries the archive at a path over to a new one from that day on. After a fault its line is printed, and a sentence for
 /// a person on standard error. Returns the program's status.
+#[inline(never)]
 pub fn carry_on(rt: &HostRuntime, path: &str, new: &str, date: &str) -> u8 {
     match carry_day(date) {
         Ok(from) => carry_at(rt, path, new, from),

@@ -96,6 +96,7 @@ fn run(rt: &HostRuntime, job: Job<'_>) -> u8 {
 }
 
 /// Prints a text.
+#[inline(never)]
 fn show(rt: &HostRuntime, text: Result<String, AllocError>) -> ExitCode {
     match text {
         Ok(text) => match print!(rt; "{}", text.as_str()) {
@@ -107,6 +108,7 @@ fn show(rt: &HostRuntime, text: Result<String, AllocError>) -> ExitCode {
 }
 
 /// Imports the card files that arguments name.
+#[inline(never)]
 fn import(
     rt: &HostRuntime,
     words: &[String],
@@ -129,6 +131,7 @@ fn import(
 }
 
 /// Shows what is wrong with arguments, and how the command is used.
+#[inline(never)]
 fn misused(rt: &HostRuntime, words: &[String], cause: &str) -> ExitCode {
     match usage_text(rt.alloc(), cause, words) {
         Ok(text) => usage(rt, text.as_str()),
@@ -136,9 +139,15 @@ fn misused(rt: &HostRuntime, words: &[String], cause: &str) -> ExitCode {
     }
 }
 
+/// Reads arguments. It isn't inlined, so that the parser's variables are on the stack only until it returns.
+#[inline(never)]
+fn job_of<'a>(rt: &HostRuntime, words: &'a [String]) -> Result<Job<'a>, Usage> {
+    tacho_cli::parse(rt.alloc(), words)
+}
+
 /// Does what the parser finds in arguments.
 fn parse(rt: &HostRuntime, words: &[String]) -> ExitCode {
-    match tacho_cli::parse(rt.alloc(), words) {
+    match job_of(rt, words) {
         Ok(job) => ExitCode::from(run(rt, job)),
         Err(Usage::Words(text)) => usage(rt, text.as_str()),
         Err(Usage::Numbers) => misused(
