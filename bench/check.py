@@ -56,7 +56,7 @@ def megabytes_of(command: list[str], expected: str) -> float:
     run = subprocess.run([sys.executable, "-S", "-c", LAUNCHER, *command], stdin=subprocess.DEVNULL, capture_output=True, text=True)
     if run.stdout != expected:
         sys.exit(f"{command}: expected {expected!r}, got {run.stdout!r}")
-    return int(run.stderr) * 1024 / 1e6
+    return int(run.stderr.splitlines()[-1]) * 1024 / 1e6  # a fault's sentence stands before it
 
 
 def measure(folder: str, program: str, script: str, drivers: int, files: int) -> None:
