@@ -248,15 +248,6 @@ pub record AreMissing (breaches others : List Breach) (n : ℕ) (missing : List 
   pub each : (b : Breach) → Contains missing b ↔ (Contains (take n breaches) b × (Contains others b → ⊥))
   pub apart : HaveOwnPlaces breaches → HaveOwnPlaces missing
 
-pub none_missing : (breaches others missing : List Breach) → missing ≡ [] → AreMissing breaches others 0 missing
-none_missing breaches others missing e = record {
-  each = λ b. (
-    λ in'. absurd (let none = subst (λ (xs : List Breach). Contains xs b) e in' in let l : none.0 < 0 = none.1 in omega (arith, l)),
-    λ in'. absurd (let l : in'.0.0 < 0 = in'.0.1 in omega (arith, l)),
-  );
-  apart = λ all. subst HaveOwnPlaces (sym e) (λ i j d below within. absurd (omega (arith, within)));
-}
-
 module _ (breaches others : List Breach) (n : ℕ) (within : n < length breaches) (missing : List Breach)
     (are : AreMissing breaches others n missing) (b : Breach) (is : b ≡ get_or breaches n b) where
   one_more : take (n + 1) breaches ≡ take n breaches ++ b ∷ []

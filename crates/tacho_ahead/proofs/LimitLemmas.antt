@@ -1,5 +1,5 @@
 -- The search for a rule's limit.
-use Rattle.std.proofs.Common.{◌≡◌, ℕ, ◌+◌, ◌≤◌, inl, inr, List, Option, None, Some, ◌<◌, refl, sym, subst, arith}
+use Rattle.std.proofs.Common.{◌≡◌, ℕ, ◌+◌, ◌≤◌, inl, inr, List, Option, None, Some, ◌<◌, sym, subst, arith}
 use Rattle.std.proofs.lemmas.Bool.{cases_lt}
 use Rattle.tacho_time.specs.declared.span.Span.{Span}
 use Rattle.tacho_law.specs.declared.breach.Breach.{Breach}
@@ -16,12 +16,6 @@ use Rattle.tacho_ahead.proofs.PlanLemmas.{same_known, same_then}
 pub record IsSearched (s : Scan) (was found : Found) (had : List Breach) (k : Kind) (start until : ℕ) : Type 0 where
   pub same : HasSame was found
   pub none : (held : List Span) (base : ℕ) → IsKnown s was had held base start → BreaksNone held base start k until
-
-pub searched_none : (s : Scan) (f : Found) (had : List Breach) (k : Kind) (start : ℕ) → IsSearched s f f had k start start
-searched_none s f had k start = record {
-  same = record { breaches = refl; debts = refl };
-  none = λ held base known x above below. absurd (omega (arith, above, below));
-}
 
 pub searched_next : (s : Scan) (was found new : Found) (had : List Breach) (k : Kind) (start until : ℕ)
     → IsSearched s was found had k start until → HasSame found new

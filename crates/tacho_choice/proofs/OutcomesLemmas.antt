@@ -2,7 +2,7 @@
 use Rattle.std.proofs.Common.{◌≡◌, ◌≢◌, ℕ, zero, suc, ◌+◌, ◌<◌, ◌≤◌, ◌⊎◌, inl, inr, refl, sym, ap, subst, ◌∙◌, arith}
 use Rattle.std.proofs.Common.{Bool, true, false, List, [], ◌∷◌, length, get_or, set, get_or-set_other, get_or-set_same}
 use Rattle.std.specs.Prelude.{◌↔◌}
-use Rattle.std.proofs.lemmas.Bool.{cases_lt, cases_eq, cases_Bool, both_ways}
+use Rattle.std.proofs.lemmas.Bool.{cases_eq, cases_Bool}
 use Rattle.tacho_choice.specs.declared.counted.Counted.{Counted}
 use Rattle.tacho_choice.specs.declared.counted.Counted.TheVariants.{Nothing, One, More}
 use Rattle.tacho_choice.specs.declared.outcome.Outcome.{Outcome}
@@ -103,13 +103,6 @@ pub first_few : (b : Bool) → first_place b ≤ 5
 first_few true = omega arith
 first_few false = omega arith
 
--- the range of an outcome's place, by whether the rest that crosses the week's end is counted
-first_at : (s : Outcome) (b : Bool) → s.crossing ≡ b → (first_place b ≤ place_of s) × (place_of s < first_place b + 5)
-first_at s b e =
-    let below : place_of_counted s.counted < 5 = counted_below s.counted in
-    let same : first_place s.crossing ≡ first_place b = ap first_place e in
-    (omega arith, omega arith)
-
 crossing_by : (c : Bool) (n : ℕ) (b : Bool) → n < 5 → first_place b ≤ n + first_place c
     → n + first_place c < first_place b + 5
     → c ≡ b
@@ -128,26 +121,6 @@ module _ (asks : Bool) (outcomes : List Bool) (crossing : Bool) (counted : Count
   abbrev pub NoneLeads : ℕ → Type 0
   NoneLeads n = (old : Outcome) → Leads asks outcomes crossing counted old → place_of old < n → ⊥
 
-  pub none_leads_first : NoneLeads (first_place crossing)
-  none_leads_first old leads below =
-      let at = first_at old crossing leads.1 in
-      let above : first_place crossing ≤ place_of old = at.0 in
-      omega arith
-
-  pub none_leads_more : (n : ℕ) → ((old : Outcome) → place_of old ≡ n → Leads asks outcomes crossing counted old → ⊥)
-      → NoneLeads n → NoneLeads (n + 1)
-  none_leads_more n here none old leads below = elim (cases_lt (place_of old) n) [
-    | inl before ↦ none old leads before
-    | inr at ↦ here old (omega arith) leads
-  ]
-
-  pub none_leads_all : (n : ℕ) → first_place crossing + 5 ≤ n → NoneLeads n → (old : Outcome)
-      → Leads asks outcomes crossing counted old → ⊥
-  none_leads_all n all none old leads =
-      let at = first_at old crossing leads.1 in
-      let below : place_of old < first_place crossing + 5 = at.1 in
-      none old leads (omega arith)
-
   pub leads_at : (old : Outcome) (n : ℕ) → place_of old ≡ n → first_place crossing ≤ n → n < first_place crossing + 5
       → get_or outcomes n false ≡ true → (asks ≡ true → serves old.counted counted ≡ true)
       → (o : Outcome) × Leads asks outcomes crossing counted o
@@ -163,49 +136,11 @@ module _ (asks : Bool) (outcomes : List Bool) (crossing : Bool) (counted : Count
 
 module _ (outcomes old : List Bool) (week : WeeklyRests) (asks before after allows : Bool) (counted : Counted)
     (is : counted ≡ counted_of week before after) (may_is : allows ≡ may week before after) where
-  -- an outcome that can be reached is allowed
-  led_allowed : (new : Outcome) → IsLedTo week asks old before after new → allows ≡ true
-  led_allowed new (at, (o, (held, from, next))) =
-      let one : may week before new.crossing ≡ true =
-      subst (λ (b : Bool). may week b new.crossing ≡ true) from next.allowed in
-      may_is ∙ subst (λ (b : Bool). may week before b ≡ true) at one
-
   led_counted : (new : Outcome) → IsLedTo week asks old before after new → new.counted ≡ counted
   led_counted new (at, (o, (held, from, next))) =
       let one : new.counted ≡ counted_of week before new.crossing =
       subst (λ (b : Bool). new.counted ≡ counted_of week b new.crossing) from next.counted in
       subst (λ (b : Bool). new.counted ≡ counted_of week before b) at one ∙ sym is
-
-  led_leads : (new : Outcome) → IsLedTo week asks old before after new
-      → (o : Outcome) × Leads asks old before counted o
-  led_leads new (at, (o, (held, from, next))) = (
-    o,
-    (
-      held,
-      from,
-      λ e. subst (λ (c : Counted). serves o.counted c ≡ true)
-          (led_counted new (at, (o, (held, from, next)))) (next.served e),
-    ),
-  )
-
-  -- either no outcome is added
-  pub reach_not : allows ≡ false → (new : Outcome)
-      → HasOutcome outcomes new ↔ (HasOutcome outcomes new ⊎ IsLedTo week asks old before after new)
-  reach_not no' new = (
-    λ h. inl h,
-    λ h. elim h [
-      | inl held ↦ held
-      | inr led ↦ absurd
-          (both_ways allows no' (led_allowed new led))
-    ],
-  )
-
-  pub reach_none : ((o : Outcome) → Leads asks old before counted o → ⊥) → (new : Outcome)
-      → HasOutcome outcomes new ↔ (HasOutcome outcomes new ⊎ IsLedTo week asks old before after new)
-  reach_none none new = (
-    λ h. inl h,
-    λ h. elim h [ inl held ↦ held | inr led ↦ let x = led_leads new led in absurd (none x.0 x.1) ],
-  )
 
   -- or one outcome is added
   pub reach_put : (place : ℕ) → length outcomes ≡ 10 → allows ≡ true → ((o : Outcome) × Leads asks old before counted o)

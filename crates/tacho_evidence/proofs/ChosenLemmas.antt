@@ -7,7 +7,7 @@ use Rattle.std.specs.List.{AllPairs, Contains}
 use Rattle.std.specs.List.Sorted.{IsPartitionPoint}
 use Rattle.std.proofs.Math.Dec.{ltb}
 use Rattle.std.proofs.lemmas.Bool.{cases_lt, ltb-true, ltb-false}
-use Rattle.std.proofs.lemmas.List.{append-nil, get_or_default, take_more}
+use Rattle.std.proofs.lemmas.List.{get_or_default, take_more}
 use Rattle.std.proofs.lemmas.List.Elements.{Contains-get_or}
 use Rattle.tacho_time.specs.declared.span.Span.{Span}
 use Rattle.tacho_law.specs.declared.breach.Breach.{Breach}
@@ -127,14 +127,6 @@ pub record HasWeeks (line : Line) (first past : ℕ) (before lines : List Eviden
   pub are : AreWeekLines line first (past - first) weeks
   pub is : lines ≡ before ++ weeks
 
--- before the first week
-pub weeks_none : (line : Line) (first : ℕ) (before : List EvidenceLine) → HasWeeks line first first before before
-weeks_none line first before = record {
-  weeks = [];
-  are = subst (λ (n : ℕ). AreWeekLines line first n []) (let e : 0 ≡ first - first = omega arith in e) refl;
-  is = sym (append-nil before);
-}
-
 -- one more week is appended
 pub weeks_push : (line : Line) (first n : ℕ) (before lines : List EvidenceLine) (one : EvidenceLine) → first ≤ n
     → HasWeeks line first n before lines → IsWeekLine line n one → HasWeeks line first (n + 1) before (lines ++ one ∷ [])
@@ -178,10 +170,6 @@ pub record HasRests (first last : ℕ) (runs : List Run) (before lines : List Ev
   pub counted : List EvidenceLine
   pub are : AreRestLines first last runs counted
   pub is : lines ≡ before ++ counted
-
--- before the first rest
-pub rests_none : (first last : ℕ) (before : List EvidenceLine) → HasRests first last [] before before
-rests_none first last before = record { counted = []; are = refl; is = sym (append-nil before) }
 
 -- one more rest is appended
 pub rests_push : (first last : ℕ) (runs : List Run) (i : ℕ) (d : Run) (before lines : List EvidenceLine) (one : EvidenceLine)

@@ -84,11 +84,6 @@ owed_alike line horizon xs ys same a = record {
 Sooner : Run → Run → Type 0
 Sooner a b = a.start < b.start
 
--- no two runs start before each other
-never_sooner : (a b : Run) → Sooner a b → Sooner b a → ⊥
-unfolding Sooner
-never_sooner a b e f = omega arith
-
 -- a run pays nothing of a debt that a later run pays
 pub other_share : (run : Run) (debt : Debt) (s : ℕ) → run.start < s → share run (record debt { paid_by = Some s }) ≡ 0
 other_share run debt s later = grind (arith, nat_tests)

@@ -98,9 +98,6 @@ settled_tail line horizon before x xs s i debt is =
     subst (λ (ds : List Debt). IsSettled line horizon ds debt)
     (sym (append_assoc before (x ∷ []) (take i xs))) (s (suc i) debt is)
 
-never_earlier_week : (a b : Debt) → EarlierWeek a b → EarlierWeek b a → ⊥
-never_earlier_week a b e f = omega arith
-
 -- each debt of one list has a debt alike in the other
 Matches : List Debt → List Debt → Type 0
 Matches debts others = (debt : Debt) → Contains debts debt → (other : Debt) × Contains others other × Alike debt other

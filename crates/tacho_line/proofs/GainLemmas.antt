@@ -251,10 +251,6 @@ agreed_first line spans runs h r =
 pub agreed_fault : (line spans runs : List Span) (m : ℕ) → IsCanonical line → IsCanonicalOf (Gives spans) runs → first_empty spans ≡ None → conflict_of line runs ≡ Some m → IsGainFault line spans (Contradiction m)
 agreed_fault line spans runs m h r full e = (full, subst (First (Conflicts (Together line spans))) e (agreed_first line spans runs h r))
 
--- an option isn't both a mark and none
-mark_or_none : (o : Option Mark) (a : Mark) → o ≡ Some a → o ≡ None → ⊥
-mark_or_none o a e f = cc
-
 pub gains_are : (line spans runs gains : List Span) → IsCanonical line → IsCanonicalOf (Gives spans) runs → first_empty spans ≡ None → conflict_of line runs ≡ None → gains ≡ lacking_of line runs → AreGains line spans gains
 gains_are line spans runs gains h r full e f = subst (AreGains line spans) (sym f) (record {
   full = full;

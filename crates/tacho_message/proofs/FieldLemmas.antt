@@ -4,8 +4,6 @@ use Rattle.std.proofs.lemmas.List.{append-nil}
 use Rattle.std.proofs.Common.{◌≡◌, ◌-◌, drop, ◌<◌, ◌≤◌, ◌+◌, ◌*◌, ◌^◌, ◌++◌, ◌∷◌, ◌∙◌, ℕ, true, false, List, [], length, map, take, get_or, refl, ap, arith, cond, lit<, suc, zero}
 use Rattle.std.proofs.Math.Nat.{pow-le-pow_right}
 use Rattle.std.specs.Str.{all_ascii_digits}
-use Rattle.std.specs.Char.{digit_value}
-use Rattle.std.specs.Str.Parse.{digits_value_after}
 use Rattle.tacho_message.specs.Fields.{values_under, same_name}
 use Rattle.std.proofs.lemmas.List.{take_more}
 use Rattle.std.proofs.lemmas.List.{map-append}
@@ -19,11 +17,6 @@ values_under-append name (x ∷ a) b = elim (same_name x.0 name) as (λ t. cond 
   | true ↦ ap (λ r. x.1 ∷ r) (values_under-append name a b)
   | false ↦ values_under-append name a b
 ]
-
--- the value of digits, followed by one more digit
-pub digits_value_after-append : (n : ℕ) (a : List ℕ) (c : ℕ) → digits_value_after 10 n (a ++ c ∷ []) ≡ digits_value_after 10 n a * 10 + digit_value c
-digits_value_after-append n [] c = refl
-digits_value_after-append n (x ∷ a) c = digits_value_after-append (n * 10 + digit_value x) a c
 
 -- a power of ten below 10 ^ 12
 pub short_power : (i : ℕ) → i < 12 → 10 ^ i ≤ 100000000000

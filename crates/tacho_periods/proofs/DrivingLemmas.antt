@@ -151,12 +151,6 @@ counted_end spans past from to n r = elim (cases_lt past to) [
   | inr ge ↦ let h : min to past ≡ to = omega arith in r.count ∙ ap (driving (line_of spans) from) h
 ]
 
--- at a span that starts at the end of the range or later, all are counted
-pub counted_enough : (spans left : List Span) (s : Span) (past from to n : ℕ)
-    → Counted spans (s ∷ left) past from to n → to ≤ s.start → n ≡ driving (line_of spans) from to
-counted_enough spans left s past from to n r late =
-    let h : min to s.start ≡ to = omega arith in r.count ∙ ap (driving (line_of spans) from) h
-
 -- spans that ended before the range add nothing
 pub counted_after : (spans left : List Span) (past from to k : ℕ) → Counted spans left past from to 0
     → All (λ (s : Span). s.past ≤ from) (take k left) → Counted spans (drop k left) past from to 0

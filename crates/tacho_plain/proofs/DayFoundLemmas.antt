@@ -115,10 +115,6 @@ short_back line days are times b (k, h) =
       ),
     )
 
--- the breach of a day with more driving than a limit, with this kind
-abbrev pub LongOf : Line → Kind → ℕ → DutyDay → Breach → Type 0
-LongOf line kind limit day breach = IsInTime day × IsLongDay line kind limit day breach
-
 -- the breach B4 of a duty day
 abbrev pub B4Of : Line → DutyDay → Breach → Type 0
 B4Of line day breach = IsDuty line day × IsInTime day × IsLongDay line B4 600 day breach

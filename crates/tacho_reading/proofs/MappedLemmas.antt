@@ -35,8 +35,3 @@ answers_found (Ok y) t told cases is = subst (λ u. Answers (λ y. y) u told) (s
 answers_found (Err e) (Ok x) told cases is = absurd cases
 answers_found (Err table.Memory) (Err f) told cases is = subst (λ g. Answers (λ y. y) (Err g) told) (sym cases) tt
 answers_found (Err table.Store) (Err f) told cases is = subst (λ g. Answers (λ y. y) (Err g) told) (sym cases) tt
-
--- two facts about a successful call
-pub on_ok_both : {T E : Type 0} (r : Result T E) (P Q : Type 0) → OnOk r P → OnOk r Q → OnOk r (P × Q)
-on_ok_both (Ok x) P Q p q = (p, q)
-on_ok_both (Err e) P Q p q = tt

@@ -77,11 +77,6 @@ fits_back : (amount minutes kept paid : ℕ) → kept + paid + amount ≤ minute
 fits_back amount minutes kept paid fits =
     let f : amount ≤ minutes - (kept + paid) = omega arith in grind (arith, nat_tests)
 
-fits_no : (amount minutes kept paid : ℕ) → nat_le amount (minutes - (kept + paid)) ≡ false
-    → kept + paid + amount ≤ minutes → ⊥
-fits_no amount minutes kept paid e fits =
-    let f : minutes - (kept + paid) < amount = grind (arith, nat_tests) in omega arith
-
 -- a rest that has the same minutes before `end` as before the horizon
 module _ (line : Line) (horizon end : ℕ) (rest : Run) (rests : IsRestRun line rest) (kept : ℕ)
     (k : IsKept line horizon rest kept) (known : min rest.past end ≡ min rest.past horizon) where

@@ -11,15 +11,13 @@ use Rattle.tacho_time.specs.declared.span.Mark.{Mark}
 use Rattle.tacho_time.specs.Spans.{Gives, Conflicts}
 use Rattle.tacho_line.specs.Line.{empty_from, first_empty}
 use Rattle.tacho_line.proofs.MergeLemmas.{append_gives, front_gives, back_gives}
-use Rattle.tacho_state.specs.declared.fault.StoreFault.{StoreFault}
-use Rattle.tacho_state.specs.declared.fault.StoreFault.TheVariants.{UnknownEntry, AlreadyWithdrawn, Full}
+use Rattle.tacho_state.specs.declared.fault.StoreFault.TheVariants.{UnknownEntry, AlreadyWithdrawn}
 use Rattle.tacho_state.specs.Batch.{Hours, IsEntryLine, batch_of}
 use Rattle.tacho_state.specs.Limits.{next_number}
-use Rattle.tacho_state.specs.Least.{least_conflict}
-use Rattle.tacho_state.specs.State.{Download, Entry, Driver, given_spans, entry_span, entered_spans, held_spans, entry_from, marked_from, with_batch, with_marked, AreFull}
-use Rattle.tacho_state.specs.Steps.{most_records, entered_by, enter_own, withdrawn_by, withdraw_own}
+use Rattle.tacho_state.specs.State.{Download, Entry, Driver, given_spans, entry_span, entered_spans, held_spans, entry_from, marked_from, with_marked, AreFull}
+use Rattle.tacho_state.specs.Steps.{most_records, withdrawn_by, withdraw_own}
 use Rattle.tacho_state.proofs.GainLemmas.{entered_append}
-use Rattle.tacho_shelf.specs.Shelf.{AreKept, IsStepFault, IsLeast, IsEnteredAt}
+use Rattle.tacho_shelf.specs.Shelf.{AreKept, IsEnteredAt}
 use Rattle.tacho_shelf.proofs.RowLemmas.{looked_up}
 
 -- ---- a batch
@@ -46,43 +44,6 @@ no_empty_entry batch h = none_empty_from 0 batch h
 
 -- a driver, and a batch
 module _ (batch : List Entry) (d : Driver) where
-  -- a batch that contradicts is refused
-  pub enter_contradicted : (fault : StoreFault) → IsLeast (least_conflict (held_spans d ++ entered_spans batch)) fault
-      → IsStepFault (enter_own batch d) fault
-  enter_contradicted fault (inl e) = inl e
-  enter_contradicted fault (inr h) = inr (ap (entered_by batch d) h.2 ∙ ap Err (sym h.1))
-
-  -- a batch that contradicts nothing is added, if enough numbers are left
-  pub enter_numbered : (first : ℕ) → least_conflict (held_spans d ++ entered_spans batch) ≡ None
-      → next_number (length d.entries) (length batch) ≡ Some first → enter_own batch d ≡ Ok (first, with_batch batch d)
-  enter_numbered first none e =
-      ap (entered_by batch d) none ∙ go (nat_le (length d.entries + length batch) 1000000) refl e where
-        go : (b : Bool) → nat_le (length d.entries + length batch) 1000000 ≡ b → cond b (Some (length d.entries + 1)) None ≡ Some first
-            → entered_by batch d None ≡ Ok (first, with_batch batch d)
-        go true t f =
-            let room : nat_lt 1000000 (length d.entries + length batch) ≡ false = grind (arith, nat_tests) in
-            let same : 1 + length d.entries ≡ first = let h : length d.entries + 1 ≡ first = cc in omega (arith, h) in
-            ap (λ b. cond b (Err Full) (Ok (1 + length d.entries, with_batch batch d))) room
-            ∙ ap (λ n. Ok (n, with_batch batch d)) same
-        go false t f = cc
-
-  -- it is refused if too few numbers are left
-  pub enter_full : least_conflict (held_spans d ++ entered_spans batch) ≡ None → most_records < length d.entries + length batch
-      → enter_own batch d ≡ Err Full
-  enter_full none l =
-      let test : nat_lt 1000000 (length d.entries + length batch) ≡ true = grind (arith, nat_tests) in
-      ap (entered_by batch d) none ∙ ap (λ b. cond b (Err Full) (Ok (1 + length d.entries, with_batch batch d))) test
-
-  pub enter_unnumbered : least_conflict (held_spans d ++ entered_spans batch) ≡ None
-      → next_number (length d.entries) (length batch) ≡ None → enter_own batch d ≡ Err Full
-  enter_unnumbered none e = go (nat_le (length d.entries + length batch) 1000000) refl e where
-    go : (b : Bool) → nat_le (length d.entries + length batch) 1000000 ≡ b → cond b (Some (length d.entries + 1)) None ≡ None
-        → enter_own batch d ≡ Err Full
-    go true t f = cc
-    go false t f =
-        let full : most_records < length d.entries + length batch = grind (arith, nat_tests) in
-        enter_full none full
-
   -- if enough numbers are left, the driver may have these entries too
   few_more : (first : ℕ) → next_number (length d.entries) (length batch) ≡ Some first → length (d.entries ++ batch) ≤ most_records
   few_more first e = go (nat_le (length d.entries + length batch) 1000000) refl e where

@@ -1,5 +1,5 @@
 -- Facts about one driver of a shelf.
-use Rattle.std.proofs.Common.{◌≡◌, ◌≢◌, ℕ, zero, suc, ◌+◌, ◌<◌, ◌≤◌, ◌⊎◌, inl, inr, ◌==◌, nat_lt, true, false, cond, Bor, List, [], ◌∷◌, ◌++◌, length, get_or, slice_get, Option, Some, None, Ok, Err, is_some, IfSome, Result, IfOk, IfErr, ◌*◌, subst, refl, sym, ap, ◌∙◌, arith}
+use Rattle.std.proofs.Common.{◌≡◌, ℕ, zero, suc, ◌+◌, ◌<◌, ◌≤◌, ◌⊎◌, inl, inr, ◌==◌, nat_lt, true, false, cond, Bor, List, [], ◌∷◌, ◌++◌, length, get_or, slice_get, Option, Some, None, Ok, Err, is_some, IfSome, Result, IfOk, IfErr, ◌*◌, subst, refl, sym, ap, ◌∙◌, arith}
 use Rattle.std.proofs.Math.Path.{fun_ext}
 use Rattle.std.proofs.lemmas.Bool.{eq-eqb}
 use Rattle.std.proofs.lemmas.Bool.Decides.{nat_tests}

@@ -2,12 +2,11 @@
 use Rattle.std.proofs.Common.{◌≡◌, ◌≢◌, ◌∙◌, ◌⊎◌, inl, inr, ℕ, List, [], ◌∷◌, ◌++◌, map, filter, not, refl, sym, ap}
 use Rattle.std.proofs.lemmas.List.{append-nil}
 use Rattle.std.proofs.lemmas.List.Sorted.{IsPermutation-refl, IsPermutation-sym, IsPermutation-append_comm, IsPermutation-to_front}
-use Rattle.sqlite.specs.State.{State as StoreState}
 use Rattle.sqlite.specs.Tree.{Trees}
 use Rattle.tacho_time.specs.declared.span.Span.{Span}
 use Rattle.tacho_state.specs.State.{Entry, State, driver_of}
 use Rattle.tacho_tables.specs.Rows.{SpanRow, DriverRow}
-use Rattle.tacho_tables.specs.Tables.{Tables, HasTables, Turns, is_of, is_row_near, with_downloads, with_entries, with_withdrawn}
+use Rattle.tacho_tables.specs.Tables.{Tables, HasTables, is_of, is_row_near, with_downloads, with_entries, with_withdrawn}
 use Rattle.tacho_reading.specs.Standing.{TablesRepresent, Follows, SameRows, span_row, rows_of_entries}
 use Rattle.tacho_reading.proofs.OrderedLemmas.{any_order_stands}
 use Rattle.tacho_store.specs.After.{with_driver, with_imported, with_entered, with_renewed}
@@ -17,10 +16,6 @@ use Rattle.tacho_store.specs.Withdrawing.{HaveSameSpansOf, IsRenewed}
 use Rattle.tacho_store.proofs.OthersLemmas.{followed, added_kept, renewed_kept}
 
 -- ---- steps
-
--- two steps, one after the other
-pub turns_then : (a b c : StoreState) (f g : Tables → Tables) → Turns a b f → Turns b c g → Turns a c (λ t. g (f t))
-turns_then a b c f g first second = record { schema = second.schema; stands = λ t h. second.stands (f t) (first.stands t h) }
 
 -- ---- order
 

@@ -1,5 +1,5 @@
 -- What a change of a driver's key answers, by what look-ups find.
-use Rattle.std.proofs.Common.{◌≡◌, ℕ, List, ◌==◌, not, true, false, Option, Some, None, option_map, Result, Ok, Err, refl, sym, ap, subst, map}
+use Rattle.std.proofs.Common.{◌≡◌, ℕ, List, true, false, Option, Some, None, option_map, Result, Ok, Err, refl, sym, subst, map}
 use Rattle.std.specs.Prelude.{MatchOption, IsErr, IsErrAnd}
 use Rattle.sqlite.specs.Tree.{Trees}
 use Rattle.tacho_state.specs.declared.fault.StoreFault.{StoreFault}
@@ -13,17 +13,6 @@ use Rattle.tacho_store.specs.After.{with_rekeyed}
 use Rattle.tacho_store.specs.Rekeying.{CanHaveKey, IsAskedKey}
 use Rattle.tacho_store.proofs.RegistrationTablesLemmas.{rekeyed_is}
 use Rattle.tacho_store.proofs.OthersLemmas.{followed}
-
--- the number of a driver says whether the driver is another one
-pub another_number : (n number : ℕ) (d : Option Driver) → Some number ≡ option_map (λ (x : Driver). x.number) d
-    → not (number == n) ≡ is_another n d
-another_number n number None e = cc
-another_number n number (Some x) e = let same : number ≡ x.number = cc in ap (λ k. not (k == n)) same
-
--- nobody is no other driver
-pub nobody_else : (n : ℕ) (d : Option Driver) → None ≡ option_map (λ (x : Driver). x.number) d → false ≡ is_another n d
-nobody_else n None e = refl
-nobody_else n (Some x) e = cc
 
 -- a look-up by key finds the number of the driver who has the key
 pub owner_is : (key : List ℕ) (s : State) (found : Option ℕ)

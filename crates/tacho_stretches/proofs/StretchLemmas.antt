@@ -1,5 +1,5 @@
 -- Stretches that are found one after another.
-use Rattle.std.proofs.Common.{◌≡◌, ℕ, suc, ◌<◌, ◌≤◌, inl, inr, List, [], ◌∷◌, ◌++◌, Option, None, Some, sym, ap, subst, ◌∙◌, arith, map}
+use Rattle.std.proofs.Common.{◌≡◌, ℕ, suc, ◌<◌, ◌≤◌, inl, inr, List, [], ◌∷◌, ◌++◌, Option, Some, sym, ap, subst, ◌∙◌, arith, map}
 use Rattle.std.specs.List.{All}
 use Rattle.std.proofs.lemmas.List.{append_assoc, map-append}
 use Rattle.std.proofs.lemmas.Bool.Decides.{nat_tests}
@@ -11,8 +11,8 @@ use Rattle.tacho_law.specs.Line.{IsBase}
 use Rattle.tacho_rules.specs.Report.{IsReport}
 use Rattle.tacho_rules.proofs.SliceLemmas.{early_horizon}
 use Rattle.tacho_stretches.specs.declared.stretch.Stretch.{Stretch}
-use Rattle.tacho_stretches.specs.Start.{IsStart, IsNextStart, IsEndOfHeld}
-use Rattle.tacho_stretches.specs.Stretches.{Judged, judged_of, first_monday, unseen_to, IsStretch, AreAll, AreStretches}
+use Rattle.tacho_stretches.specs.Start.{IsStart, IsNextStart}
+use Rattle.tacho_stretches.specs.Stretches.{Judged, judged_of, first_monday, unseen_to, IsStretch, AreAll}
 
 -- a single minute is before the end of a span
 pub before_end : (held : List Span) (last m : ℕ) → All (λ (s : Span). s.past ≤ last) held → IsSingle (mark_at held m) → m < last
@@ -57,16 +57,6 @@ one_more line base end monday next done s ended so same is = record {
   first = λ rest e.
       subst (λ (xs : List Judged). first_monday xs ≡ Some base) (sym (append_assoc done (s ∷ []) rest))
       (so.first (s ∷ rest) (ap (λ (m : ℕ). Some m) same));
-}
-
-pub the_last : (line : List Span) (base end monday : ℕ) (done : List Judged) (s : Judged) → IsEndOfHeld line base end
-    → IsSoFar line base end done monday → s.monday ≡ monday → IsStretch line end s None
-    → AreStretches line base (done ++ s ∷ [])
-the_last line base end monday done s is_end so same is = record {
-  first = so.first (s ∷ []) (ap (λ (m : ℕ). Some m) same);
-  end = end;
-  is_end = is_end;
-  all = so.all (s ∷ []) (ap (λ (m : ℕ). Some m) same) (is, tt);
 }
 
 -- ---- stretches in the loop
