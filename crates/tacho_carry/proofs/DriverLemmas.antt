@@ -122,14 +122,6 @@ apart_none d (x ∷ s) h =
       rw (bytes_not x.holder d.holder h.0.2) more.2,
     )
 
--- what holds of all drivers holds of the one with a number
-pub found_all : (P : Driver → Type 0) (n : ℕ) (s : State) (d : Driver) → AllByRecursion P s → driver_of n s ≡ Some d → P d
-found_all P n [] d h e = cc
-found_all P n (x ∷ s) d h e = go (x.number == n) e (found_all P n s d h.1) where
-  go : (b : Bool) → cond b (Some x) (driver_of n s) ≡ Some d → (driver_of n s ≡ Some d → P d) → P d
-  go true f more = let same : x ≡ d = cc in subst P same h.0
-  go false f more = more f
-
 -- the driver whose card has a holder has it, and is found by their number
 pub holding_found : (holder : List ℕ) (s : State) (d : Driver) → AreDistinct s → holding holder s ≡ Some d
     → (d.holder ≡ holder) × (driver_of d.number s ≡ Some d)

@@ -3,6 +3,7 @@ pub mod HeldLemmas
 pub mod DayLemmas
 pub mod DriverLemmas
 pub mod SoundLemmas
+pub mod LimitLemmas
 pub mod TakenLemmas
 pub mod StepLemmas
 pub mod FileLemmas

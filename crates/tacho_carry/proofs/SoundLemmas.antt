@@ -14,8 +14,9 @@ use Rattle.tacho_state.specs.Steps.{is_monday, most_records}
 use Rattle.tacho_state.proofs.DisjointLemmas.{disjoint_agrees, disjoint_canonical}
 use Rattle.tacho_state.proofs.GainLemmas.{batch_held, download_held}
 use Rattle.tacho_state.proofs.LeastLemmas.{least_is, within_is}
+use Rattle.tacho_state.specs.Within.{IsOf}
 use Rattle.tacho_carry.specs.Carried.{carried, carried_driver, carried_files, reaches}
-use Rattle.tacho_carry.specs.Sound.{AreNews, IsOf, IsSound, IsSoundDriver}
+use Rattle.tacho_carry.specs.Sound.{AreNews, IsSound, IsSoundDriver}
 use Rattle.tacho_carry.proofs.DayLemmas.{later_monday}
 use Rattle.tacho_carry.proofs.DriverLemmas.{all_carried, distinct_carried, distinct_ordered}
 use Rattle.tacho_carry.proofs.HeldLemmas.{each_part, files_within, held_within}

@@ -18,10 +18,11 @@ use Rattle.tacho_state.specs.declared.fault.StoreFault.TheVariants.{AlreadyWithd
 use Rattle.tacho_state.proofs.DistinctLemmas.{IsKeyFreeFor, distinct_added, distinct_put, holder_not}
 use Rattle.tacho_state.proofs.DistinctLemmas.{key_free, key_not, number_not, own_key}
 use Rattle.tacho_state.proofs.EqualLemmas.{bytes_true}
-use Rattle.tacho_state.proofs.PutLemmas.{found_number}
+use Rattle.tacho_state.proofs.PutLemmas.{found_all, found_number}
 use Rattle.tacho_state.proofs.WithdrawLemmas.{left_given}
-use Rattle.tacho_carry.specs.Sound.{IsOf, IsSound, IsSoundDriver}
-use Rattle.tacho_carry.proofs.DriverLemmas.{all_put, found_all, holding_found}
+use Rattle.tacho_state.specs.Within.{IsOf}
+use Rattle.tacho_carry.specs.Sound.{IsSound, IsSoundDriver}
+use Rattle.tacho_carry.proofs.DriverLemmas.{all_put, holding_found}
 use Rattle.tacho_carry.proofs.ListLemmas.{all_end}
 use Rattle.tacho_carry.proofs.SoundLemmas.{batch_sound, download_sound, fewer_sound, new_sound, other_sound}
 
@@ -36,7 +37,7 @@ same_self : (d : Driver) → IsSame d d
 same_self d = (refl, refl, refl)
 
 -- what a change of a driver answers
-abbrev Answer : Type 0
+abbrev pub Answer : Type 0
 Answer = Result (Unit {0} × Driver) StoreFault
 
 -- a result is a refusal, or the same driver, who is sound
@@ -45,7 +46,7 @@ IsChange d (Err fault) = Unit {0}
 IsChange d (Ok told) = IsSame told.1 d × IsSoundDriver told.1
 
 -- a driver who is found by a number is found by their own
-found_again : (n : ℕ) (s : State) (d : Driver) → driver_of n s ≡ Some d → driver_of d.number s ≡ Some d
+pub found_again : (n : ℕ) (s : State) (d : Driver) → driver_of n s ≡ Some d → driver_of d.number s ≡ Some d
 found_again n s d e = subst (λ (k : ℕ). driver_of k s ≡ Some d) (sym (found_number n s d e)) e
 
 -- a state stays sound if a sound driver whose key is free is put in place of the driver with the same number and holder

@@ -19,8 +19,9 @@ use Rattle.tacho_state.specs.Steps.{Content, enter_own, import_own, register_ste
 use Rattle.tacho_state.proofs.ContentLemmas.{one_content, one_part}
 use Rattle.tacho_state.proofs.GainLemmas.{entered_append}
 use Rattle.tacho_state.proofs.LeastLemmas.{none_is, not_within}
+use Rattle.tacho_state.specs.Within.{IsOf}
 use Rattle.tacho_carry.specs.Carried.{carried, carried_driver, carried_entries, carried_files, monday_of}
-use Rattle.tacho_carry.specs.Sound.{IsOf, IsSound, IsSoundDriver}
+use Rattle.tacho_carry.specs.Sound.{IsSound, IsSoundDriver}
 use Rattle.tacho_carry.proofs.DayLemmas.{later_monday}
 use Rattle.tacho_carry.proofs.DriverLemmas.{IsOther, all_carried, apart_none, first_apart}
 use Rattle.tacho_carry.proofs.HeldLemmas.{each_part}

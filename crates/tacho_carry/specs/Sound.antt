@@ -2,15 +2,11 @@
 use Rattle.std.specs.Prelude.{◌≡◌, ◌≤◌, ◌++◌, ◌∷◌, ℕ, List, length, true}
 use Rattle.std.specs.List.{AllByRecursion}
 use Rattle.tacho_time.specs.Spans.{Conflicts, Gives}
-use Rattle.tacho_state.specs.Content.{HasContent}
 use Rattle.tacho_state.specs.Disjoint.{AllWithin}
 use Rattle.tacho_state.specs.Distinct.{AreDistinct}
 use Rattle.tacho_state.specs.State.{Download, Driver, Held, State, given_spans}
 use Rattle.tacho_state.specs.Steps.{is_monday, most_records}
-
--- the file is of a card of this holder, and gives the download's spans
-abbrev pub IsOf : List ℕ → Download → Type 0
-IsOf holder d = HasContent d.part d.file (record { holder = holder; spans = d.spans })
+use Rattle.tacho_state.specs.Within.{IsOf}
 
 -- each card file gives a minute and mark that none before it gives
 abbrev pub AreNews : List Download → Type 0

@@ -1,17 +1,22 @@
 //! Laws about archives that are carried over. A law is a function without a body: its `ensures` clauses are proved, and hold for all values
 //! that they name.
 
-ghost use Rattle.std.specs.Prelude.{◌≡◌, ◌≤◌, ◌*◌, ◌+◌, ◌++◌, ◌∷◌, ◌↔◌, [], ℕ, IsPermutation, List, Option, Result, Ok, length, max, true};
+ghost use Rattle.std.specs.Prelude.{◌≡◌, ◌≤◌, ◌*◌, ◌+◌, ◌++◌, ◌∷◌, ◌↔◌, [], ℕ, IsPermutation, IsUtf8, List, Option, Result, Ok, length, max, true};
+ghost use Rattle.std.specs.List.{AllByRecursion};
+ghost use Rattle.tacho_time.specs.Limits.{last_day};
 ghost use Rattle.tacho_time.specs.declared.span.Span.{Span};
 ghost use Rattle.tacho_time.specs.declared.span.Mark.{Mark};
 ghost use Rattle.tacho_time.specs.Spans.{Gives};
 ghost use Rattle.tacho_card.specs.declared.fault.CardFault.{CardFault};
 ghost use Rattle.tacho_card.specs.declared.file.Part.{Part};
 ghost use Rattle.tacho_state.specs.Content.{FileTells};
+ghost use Rattle.tacho_state.specs.Limits.{IsKey, IsName};
 ghost use Rattle.tacho_state.specs.Numbers.{part_number};
+ghost use Rattle.tacho_state.specs.Registration.{Registration, IsReadDay, IsRegistration};
 ghost use Rattle.tacho_state.specs.State.{Download, Driver, Entry, Held, State, with_batch, with_download};
 ghost use Rattle.tacho_state.specs.Steps.{Content, enter_own, enter_step, import_own, import_step, rebase_step, register_step};
 ghost use Rattle.tacho_state.specs.Steps.{rekey_step, rename_step, withdraw_range_step};
+ghost use Rattle.tacho_state.specs.Within.{AreWithinLimits, IsEntry};
 ghost use Rattle.tacho_state.specs.declared.imported.Imported.TheVariants.{Added};
 ghost use Rattle.tacho_carry.specs.Carried.{carried, carried_driver, carried_entries, carried_files, is_left_out, monday_of, reaches};
 ghost use Rattle.tacho_carry.specs.Sound.{IsSound, IsSoundDriver};
@@ -67,4 +72,27 @@ pub fn states_are_sound()
     ensures renamed { (n : ℕ) (name : List ℕ) (s : State) → IsSound s → IsSound (rename_step n name s).after }
     ensures carried { (day : ℕ) (s : State) → IsSound s → IsSound (carried day s) }
     ensures ordered { (s t : State) → IsPermutation s t → IsSound s → IsSound t }
+{}
+
+/// A sound archive whose state is within its limits is so after any list of commands within theirs: a registration, a batch of entries, a
+/// base, a key and a name that have their form. So is an archive that was carried over, and the same drivers in another order.
+pub fn states_stay_within_limits()
+    ensures created { AreWithinLimits [] }
+    ensures registered { (r : Registration) (s : State) → IsRegistration r → length r.holder ≡ 15 → IsUtf8 r.key → IsUtf8 r.name
+        → IsSound s → AreWithinLimits s → AreWithinLimits (register_step r.number r.holder r.key r.base r.name s).after }
+    ensures imported { (caller : Option ℕ) (part : Part) (file : List ℕ) (content : Result Content CardFault) (s : State)
+        → FileTells part file content
+        → IsSound s → AreWithinLimits s → AreWithinLimits (import_step caller (part_number part) file content s).after }
+    ensures entered { (n : ℕ) (batch : List Entry) (s : State) → AllByRecursion IsEntry batch
+        → IsSound s → AreWithinLimits s → AreWithinLimits (enter_step n batch s).after }
+    ensures withdrawn { (n first last : ℕ) (s : State)
+        → IsSound s → AreWithinLimits s → AreWithinLimits (withdraw_range_step n first last s).after }
+    ensures rebased { (n base : ℕ) (s : State) → IsReadDay base
+        → IsSound s → AreWithinLimits s → AreWithinLimits (rebase_step n base s).after }
+    ensures rekeyed { (n : ℕ) (key : List ℕ) (s : State) → IsKey key → IsUtf8 key
+        → IsSound s → AreWithinLimits s → AreWithinLimits (rekey_step n key s).after }
+    ensures renamed { (n : ℕ) (name : List ℕ) (s : State) → IsName name → IsUtf8 name
+        → IsSound s → AreWithinLimits s → AreWithinLimits (rename_step n name s).after }
+    ensures carried { (day : ℕ) (s : State) → day ≤ last_day → IsSound s → AreWithinLimits s → AreWithinLimits (carried day s) }
+    ensures ordered { (s t : State) → IsPermutation s t → IsSound s → AreWithinLimits s → AreWithinLimits t }
 {}

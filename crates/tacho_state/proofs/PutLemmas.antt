@@ -1,5 +1,6 @@
 -- A state with another driver in place of the one with the same number.
 use Rattle.std.proofs.Common.{◌≡◌, ◌≢◌, ℕ, ◌==◌, Bool, true, false, cond, List, [], ◌∷◌, Option, Some, refl, sym, ap, ◌∙◌, subst, bytes_eq}
+use Rattle.std.specs.List.{AllByRecursion}
 use Rattle.std.specs.Prelude.{option_map}
 use Rattle.tacho_state.specs.State.{Driver, State, driver_of, driver_with_key, put}
 use Rattle.tacho_state.proofs.EqualLemmas.{eq_not, eq_self, eq_true}
@@ -80,3 +81,11 @@ put_keys d old key (x ∷ s) e same = go (x.number == d.number) refl e (λ f. pu
         ≡ option_map (λ (y : Driver). y.number) (cond c (Some x) (driver_with_key key s))
     here true = refl
     here false = more f
+
+-- what holds of all drivers holds of the one with a number
+pub found_all : (P : Driver → Type 0) (n : ℕ) (s : State) (d : Driver) → AllByRecursion P s → driver_of n s ≡ Some d → P d
+found_all P n [] d h e = cc
+found_all P n (x ∷ s) d h e = go (x.number == n) e (found_all P n s d h.1) where
+  go : (b : Bool) → cond b (Some x) (driver_of n s) ≡ Some d → (driver_of n s ≡ Some d → P d) → P d
+  go true f more = let same : x ≡ d = cc in subst P same h.0
+  go false f more = more f

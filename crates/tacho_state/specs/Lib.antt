@@ -13,3 +13,4 @@ pub mod Reported
 pub mod Acts
 pub mod Runs
 pub mod Summaries
+pub mod Within
