@@ -57,19 +57,45 @@ ARCHIVES: dict[str, list[Command]] = {
 MONDAY_DRIVEN = "start = minute('2024-03-04 08:30')"
 MORNING_DRIVEN = "17, minute('2024-03-05 08:30'), minute('2024-03-05 12:00'), 3"
 OF_SATURDAY = "driver = 17 and start between minute('2024-03-09 00:00') and minute('2024-03-10 00:00')"
+WITHDRAWN = "where driver = 17 and number = 2"
 WORKED: list[tuple[str, str]] = [
-    ("update drivers set name = '', secret = 'x', holder = x'' where driver = 17", SOUND),
-    ("update drivers set base = base + 1", SOUND),
+    ("update drivers set name = 'Carla', secret = '12345678' where driver = 17", SOUND),
+    ("update drivers set name = '' where driver = 17", "unsound 17 drivers\n"),
+    (f"update drivers set name = '{'x' * 64}' where driver = 17", SOUND),
+    (f"update drivers set name = '{'x' * 65}' where driver = 17", "unsound 17 drivers\n"),
+    (f"update drivers set name = '{'ß' * 32}' where driver = 17", SOUND),
+    (f"update drivers set name = '{'ß' * 32}x' where driver = 17", "unsound 17 drivers\n"),
+    ("update drivers set name = 'Anna' || char(10) || '99 00 2024-03-04 9 9 Nobody' where driver = 17", "unsound 17 drivers\n"),
+    ("update drivers set name = 'Berg, Anna' where driver = 17", "unsound 17 drivers\n"),
+    ("update drivers set name = 'Anna \"A\" Berg' where driver = 17", "unsound 17 drivers\n"),
+    ("update drivers set name = 'Anna' || char(127) where driver = 18", "unsound 18 drivers\n"),
+    ("update drivers set name = cast(x'416e6eff' as text) where driver = 18", "unsound 18 drivers\n"),
+    ("update drivers set name = cast(x'eda080' as text) where driver = 18", "unsound 18 drivers\n"),
+    ("update drivers set secret = '1234567' where driver = 17", "unsound 17 drivers\n"),
+    (f"update drivers set secret = '{'k' * 64}' where driver = 17", SOUND),
+    (f"update drivers set secret = '{'k' * 65}' where driver = 17", "unsound 17 drivers\n"),
+    ("update drivers set secret = 'anna_key_0001' where driver = 17", "unsound 17 drivers\n"),
+    ("update drivers set secret = cast(x'6b6b6b6b6b6b6b6bff' as text) where driver = 17", "unsound 17 drivers\n"),
+    ("update drivers set holder = x'' where driver = 18", "unsound 18 drivers\n"),
+    ("update drivers set holder = substr(holder, 1, 14) where driver = 18", "unsound 18 drivers\n"),
+    ("update drivers set holder = holder || x'00' where driver = 18", "unsound 18 drivers\n"),
+    ("update drivers set base = base + 1", "unsound 17 drivers\n"),
+    ("update drivers set base = base - 1 where driver = 18", "unsound 18 drivers\n"),
+    ("update drivers set base = 10959 where driver = 18", SOUND),  # 2000-01-03
+    ("update drivers set base = 10952 where driver = 18", "unsound 18 drivers\n"),
+    ("update drivers set base = 47478 where driver = 18", SOUND),  # 2099-12-28
+    ("update drivers set base = 47485 where driver = 18", "unsound 18 drivers\n"),
+    ("update drivers set base = 60000 where driver = 18", "unsound 18 drivers\n"),
     ("update drivers set base = -1 where driver = 18", "unsound 18 drivers\n"),
     ("update drivers set downloads = -1 where driver = 18", "unsound 18 drivers\n"),
     ("update drivers set entries = -1 where driver = 17", "unsound 17 drivers\n"),
-    ("insert into drivers values (5, x'00', 'k', 0, '', 0, 0)", SOUND),
-    ("insert into drivers values (0, x'00', 'k', 0, '', 0, 0)", SOUND),
-    ("insert into drivers values (1000000, x'00', 'k', 0, '', 0, 0)", SOUND),
-    ("insert into drivers values (-5, x'00', 'k', 0, '', 0, 0)", "unsound -5 drivers\n"),
-    ("insert into drivers values (5, x'00', 'k', 0, '', 1, 1)", "unsound 5 downloads\n"),
-    ("insert into drivers values (5, x'00', 'k', 0, '', 0, 1)", "unsound 5 entry_rows\n"),
-    (f"insert into drivers values ({HUGE}, x'00', 'k', 0, '', {HUGE}, 0)", f"unsound {HUGE} downloads\n"),
+    ("insert into drivers values (5, x'00', 'k', 0, '', 0, 0)", "unsound 5 drivers\n"),
+    *((f"insert into drivers values ({number}, zeroblob(15), 'carl-key-0001', 19786, 'Carl', {downloads}, {entries})", line)
+      for number, downloads, entries, line in [
+        (5, 0, 0, SOUND), (1, 0, 0, SOUND), (999_999, 0, 0, SOUND), (0, 0, 0, "unsound 0 drivers\n"), (-5, 0, 0, "unsound -5 drivers\n"),
+        (1_000_000, 0, 0, "unsound 1000000 drivers\n"), (HUGE, 0, 0, f"unsound {HUGE} drivers\n"), (5, 1, 1, "unsound 5 downloads\n"),
+        (5, 1_000_000, 0, "unsound 5 downloads\n"), (5, 1_000_001, 0, "unsound 5 drivers\n"), (5, HUGE, 0, "unsound 5 drivers\n"),
+        (5, 0, 1, "unsound 5 entry_rows\n"), (5, 0, 1_000_000, "unsound 5 entry_rows\n"), (5, 0, 1_000_001, "unsound 5 drivers\n")]),
     ("update drivers set downloads = 2 where driver = 17", "unsound 17 downloads\n"),
     ("update drivers set downloads = 4 where driver = 17", "unsound 17 downloads\n"),
     ("update downloads set number = 4 where number = 3", "unsound 17 downloads\n"),
@@ -80,7 +106,7 @@ WORKED: list[tuple[str, str]] = [
     ("update downloads set part = -1 where number = 3", "unsound 17 downloads\n"),
     ("update downloads set part = 1 where number = 3", SOUND),
     ("update downloads set file = x'' where number = 3", "unsound 17 downloads\n"),
-    (f"update downloads set file = x'{OTHER_CARD.hex()}' where number = 2", SOUND),
+    (f"update downloads set file = x'{OTHER_CARD.hex()}' where number = 2", "unsound 17 downloads\n"),
     (f"update downloads set file = x'{OTHER_DAY.hex()}' where number = 2", "unsound 17 downloads\n"),
     (f"update downloads set file = x'{DAY.hex()}' where number = 3", "unsound 17 card_spans\n"),
     ("update downloads set number = 9 where number = 1; update downloads set number = 1 where number = 2;"
@@ -114,7 +140,21 @@ WORKED: list[tuple[str, str]] = [
     ("update entry_rows set number = 4 where driver = 17 and number = 2", "unsound 17 entry_rows\n"),
     ("update entry_rows set number = 9 where driver = 17 and number = 1; update entry_rows set number = 1 where driver = 17 and number = 3;"
      "update entry_rows set number = 3 where number = 9", SOUND),
-    ("update entry_rows set author = '', note = 'x' where driver = 17", SOUND),
+    ("update entry_rows set author = 'x', note = '' where driver = 17", SOUND),
+    (f"update entry_rows set author = '{'x' * 64}', note = '{'y' * 200}' where driver = 17", SOUND),
+    ("update entry_rows set author = '' where driver = 17 and number = 3", "unsound 17 entry_rows\n"),
+    (f"update entry_rows set author = '{'x' * 65}' {WITHDRAWN}", "unsound 17 entry_rows\n"),
+    (f"update entry_rows set author = 'a,b' {WITHDRAWN}", "unsound 17 entry_rows\n"),
+    (f"update entry_rows set author = cast(x'ff' as text) {WITHDRAWN}", "unsound 17 entry_rows\n"),
+    (f"update entry_rows set note = '{'y' * 201}' {WITHDRAWN}", "unsound 17 entry_rows\n"),
+    (f"update entry_rows set note = 'a\"b' || char(10) || 'c' {WITHDRAWN}", "unsound 17 entry_rows\n"),
+    (f"update entry_rows set note = cast(x'c3' as text) {WITHDRAWN}", "unsound 17 entry_rows\n"),
+    *((f"update entry_rows set start = {start}, past = {past} {WITHDRAWN}", line) for start, past, line in [
+        (15_780_960, 15_780_961, SOUND), (15_780_959, 15_780_961, "unsound 17 entry_rows\n"),  # 2000-01-03 00:00
+        (68_374_079, 68_374_080, SOUND), (68_374_079, 68_374_081, "unsound 17 entry_rows\n"),  # 2100-01-01 00:00
+        (28_000_000, 28_527_040, SOUND), (28_000_000, 28_527_041, "unsound 17 entry_rows\n"),
+        (28_000_000, 9_000_000_000_000, "unsound 17 entry_rows\n"), (HUGE - 1, HUGE, "unsound 17 entry_rows\n")]),
+    ("update entry_rows set past = 70000000 where driver = 18; update held set past = 70000000 where driver = 18", "unsound 18 entry_rows\n"),
     ("update entry_rows set mark = 4 where number = 3", "unsound 17 entry_rows\n"),
     ("update entry_rows set mark = 4 where driver = 17 and number = 2", "unsound 17 entry_rows\n"),
     ("update entry_rows set mark = -1 where number = 3", "unsound 17 entry_rows\n"),
@@ -149,7 +189,8 @@ WORKED: list[tuple[str, str]] = [
     # Of two drivers the lower one, and of two tables the first. A driver without card files may hold what cards don't give.
     ("update held set past = past + 1", "unsound 17 held\n"),
     ("update held set past = past + 1; update drivers set base = -1 where driver = 18", "unsound 17 held\n"),
-    ("update held set past = past + 1; insert into drivers values (16, x'00', 'k', 0, '', 0, 1)", "unsound 16 entry_rows\n"),
+    ("update held set past = past + 1; insert into drivers values (16, zeroblob(15), 'carl-key-0001', 19786, 'Carl', 0, 1)",
+     "unsound 16 entry_rows\n"),
     ("update held set past = past + 1; delete from card_spans", "unsound 17 card_spans\n"),
     ("update drivers set entries = 0; delete from card_spans", "unsound 17 card_spans\n"),
     ("update drivers set entries = 0, base = -1; delete from card_spans", "unsound 17 drivers\n"),
@@ -230,12 +271,13 @@ def changes_of(table: str, columns: Sequence[str], row: Sequence[Any]) -> Iterat
         yield [added(table, (driver, past + 100, past + 100, mark))]
     if table == "drivers":
         number, holder, key, *others = row
-        yield [added(table, (number + 100, holder + b"\0", key + "x", *others))]
+        yield [added(table, (number + 100, holder[:-1] + b"\0", key + "x", *others))]
 
 
 def rows_in(path: str) -> dict[str, list[tuple[Any, ...]]]:
     """The rows of each table of a file, by SQLite."""
     with contextlib.closing(sqlite3.connect(path)) as store:
+        store.text_factory = lambda data: data.decode(errors="surrogateescape")
         return {table: store.execute(f"select * from {table}").fetchall() for table in TABLES}
 
 

@@ -64,7 +64,7 @@ DATABASE = Order(
         ("how an archive is made, found again and migrated from schema 1; the tables after a command",
          "tacho_store: Opening Old After"),
         ("what a check of the tables finds, and the line that is printed of it",
-         "tacho_tables: Readable; tacho_check: Check Checked Text"),
+         "tacho_state: Within; tacho_tables: Readable; tacho_check: Check Checked Text"),
     ),
 )
 

@@ -49,6 +49,7 @@ def read(store: sqlite3.Connection) -> Found:
 def rows_at(path: str) -> Found:
     """The tables of a file as SQLite reads them, or why it doesn't."""
     with contextlib.closing(sqlite3.connect(path)) as store:
+        store.text_factory = lambda data: data.decode(errors="surrogateescape")
         try:
             return read(store)
         except sqlite3.Error as fault:

@@ -1,9 +1,11 @@
-"""A slow check of an archive's tables, written from the definition and not from the program: whether some state has these rows, and
-otherwise the first driver, by number, and the first of that driver's tables whose rows no state has beside those of the tables before it.
-docs/TABLES.md, 'The check', says what a state's rows are.
+"""A slow check of an archive's tables, written from the definition and not from the program: whether some state within its limits has these
+rows, and otherwise the first driver, by number, and the first of that driver's tables whose rows no such state has beside those of the tables
+before it. docs/TABLES.md, 'The check', says what a state's rows are. A text that isn't UTF-8 has a surrogate for each byte that is wrong.
 
 All columns have their types, and each row has its driver in `drivers`: what is otherwise is no database of these tables. Spans may begin
 and end at any number, so what they give is found between the places where some span begins or ends."""
+import datetime
+import re
 from collections.abc import Iterable, Mapping, Sequence
 from typing import Any
 
@@ -16,6 +18,15 @@ Span = tuple[int, int, slow_reader.Mark]  # a start, a past and a mark
 TABLES = ["drivers", "downloads", "card_spans", "entry_rows", "held"]
 MARKS = [(activity, manning) for manning in ("single", "crew") for activity in slow_reader.ACTIVITIES]
 SOUND = "sound\n"
+
+# Limits
+HOLDER_BYTES = 15
+NUMBERS = range(1, 1_000_000)  # of a driver
+MOST = 1_000_000  # downloads, and entries, of a driver
+FIRST_DAY = datetime.date(2000, 1, 3)
+LAST_DAY = datetime.date(2099, 12, 31)
+YEAR = 366 * 1440  # the most minutes of an entry
+EPOCH = datetime.date(1970, 1, 1)
 
 
 class Unsound(Exception):
@@ -62,31 +73,63 @@ def are_numbered(rows: Sequence[Row], count: int) -> bool:
     return len(rows) == count and sorted(row[1] for row in rows) == [*range(1, count + 1)]
 
 
-def spans_of_file(part: int, file: bytes) -> list[Span]:
+def is_text(text: str, least: int, most: int) -> bool:
+    """Whether a text is UTF-8 of so many bytes, without control characters, commas and double quotes."""
+    try:
+        data = text.encode()
+    except UnicodeEncodeError:
+        return False
+    return least <= len(data) <= most and not re.search("[\\x00-\\x1f\\x7f,\"]", text)
+
+
+def is_name(text: str) -> bool:
+    """Whether a text is a driver's name, or an author."""
+    return is_text(text, 1, 64)
+
+
+def is_base(number: int) -> bool:
+    """Whether the day with this number is a Monday of the years that are read."""
+    days = range((FIRST_DAY - EPOCH).days, (LAST_DAY - EPOCH).days + 1)
+    return number in days and (EPOCH + datetime.timedelta(days=number)).weekday() == 0
+
+
+def is_driver(row: Row) -> bool:
+    """Whether a driver's own columns are within their limits."""
+    number, holder, key, base, name, downloads, entries = row
+    return (number in NUMBERS and len(holder) == HOLDER_BYTES and re.fullmatch("[A-Za-z0-9-]{8,64}", key) is not None and is_base(base)
+            and is_name(name) and 0 <= downloads <= MOST and 0 <= entries <= MOST)
+
+
+def spans_of_file(holder: bytes, part: int, file: bytes) -> list[Span]:
     """What a part of a card file gives."""
     if part not in range(len(slow_archive.PARTS)):
         raise Unsound("downloads")
     try:
-        _, marks = slow_archive.content(slow_archive.PARTS[part], file)
+        own, marks = slow_archive.content(slow_archive.PARTS[part], file)
     except slow_archive.Refusal as refusal:
         raise Unsound("downloads") from refusal
+    if own != holder:
+        raise Unsound("downloads")
     return [(start, past, mark) for start, past, mark in slow_reader.runs(marks.items())]
 
 
-def given_by(rows: Sequence[Row], count: int) -> list[Span]:
-    """What the downloads of a driver give."""
+def given_by(holder: bytes, rows: Sequence[Row], count: int) -> list[Span]:
+    """What the downloads of a driver with this holder give."""
     if not are_numbered(rows, count):
         raise Unsound("downloads")
-    given = [span for _, _, part, file in rows for span in spans_of_file(part, file)]
+    given = [span for _, _, part, file in rows for span in spans_of_file(holder, part, file)]
     if not agree(given):
         raise Unsound("downloads")
     return given
 
 
 def is_entry(row: Row) -> bool:
-    """Whether an entry, withdrawn or not, has a minute and the number of an activity."""
-    _, _, start, past, mark, withdrawn, *_ = row
-    return are_natural([start, mark]) and start < past and mark < len(slow_reader.ACTIVITIES) and withdrawn in (0, 1)
+    """Whether an entry, withdrawn or not, is within its limits."""
+    _, _, start, past, mark, withdrawn, author, note = row
+    first = (FIRST_DAY - EPOCH).days * 1440
+    end = ((LAST_DAY - EPOCH).days + 1) * 1440
+    return (first <= start < past <= end and past - start <= YEAR and mark in range(len(slow_reader.ACTIVITIES)) and withdrawn in (0, 1)
+            and is_name(author) and is_text(note, 0, 200))
 
 
 def held_by(rows: Sequence[Row], count: int, given: list[Span]) -> list[Span]:
@@ -108,11 +151,11 @@ def keep(rows: Sequence[Row], spans: Sequence[Span]) -> bool:
 
 
 def judge(driver: Row, rows: Rows) -> None:
-    """Raises `Unsound` with the first table that no state has beside those before it. The rows are those of one driver."""
-    number, _, _, base, _, downloads, entries = driver
-    if not are_natural([number, base, downloads, entries]):
+    """Raises `Unsound` with the first table that no state within its limits has beside those before it. The rows are those of one driver."""
+    _, holder, *_, downloads, entries = driver
+    if not is_driver(driver):
         raise Unsound("drivers")
-    given = given_by(rows["downloads"], downloads)
+    given = given_by(holder, rows["downloads"], downloads)
     if not keep(rows["card_spans"], given):
         raise Unsound("card_spans")
     held = held_by(rows["entry_rows"], entries, given)

@@ -7,6 +7,7 @@ use Rattle.tacho_tables.specs.declared.table.TableName.TheVariants.{Drivers, Dow
 use Rattle.tacho_reading.specs.Standing.{driver_columns}
 use Rattle.tacho_check.specs.Check.{place}
 use Rattle.tacho_check.specs.Member.{HasMember, HasNoRows, IsOwnSound}
+use Rattle.tacho_check.specs.Registered.{HasOwnColumns}
 use Rattle.tacho_check.specs.Judged.{HasRows, first_present, IsJudged}
 use Rattle.tacho_check.proofs.SpreadLemmas.{single}
 
@@ -84,11 +85,11 @@ module _ (rows : TableName → List Row) (n : ℤ) (absent : rows Drivers ≡ []
   )
   absent_judged false false false false a b c d = inl (up_to_held a b c d)
 
--- rows in `drivers` that aren't those of a driver aren't sound
-pub unfit_judged : (rows : TableName → List Row) (n : ℤ) → rows Drivers ≢ [] → ((r : DriverRow) → rows Drivers ≢ driver_row r ∷ [])
-    → IsJudged rows n (Some Drivers)
+-- rows in `drivers` that aren't those of a driver within their limits aren't sound
+pub unfit_judged : (rows : TableName → List Row) (n : ℤ) → rows Drivers ≢ []
+    → ((r : DriverRow) → HasOwnColumns r → rows Drivers ≢ driver_row r ∷ []) → IsJudged rows n (Some Drivers)
 unfit_judged rows n some unfit = (never, λ j before. absurd (omega (arith, before))) where
   never : IsOwnSound rows n Drivers → ⊥
   never (inl none) = some (none Drivers (omega arith))
-  never (inr it) = unfit (driver_columns it.member.driver)
+  never (inr it) = unfit (driver_columns it.member.driver) it.within.columns
       (single (driver_row (driver_columns it.member.driver)) (rows Drivers) (it.same Drivers (omega arith)))

@@ -1,37 +1,36 @@
 -- Rows that readings show, as card files.
-use Rattle.std.proofs.Common.{◌≡◌, ◌≢◌, ◌∙◌, ℕ, ℤ, pos, List, [], ◌∷◌, ◌++◌, map, Option, None, Some, refl, sym, ap, subst}
+use Rattle.std.proofs.Common.{◌≡◌, ◌≢◌, ◌∙◌, ℕ, pos, length, List, [], ◌∷◌, ◌++◌, map, Option, None, Some, refl, sym, ap, subst}
 use Rattle.std.specs.Prelude.{Vec}
 use Rattle.std.specs.declared.alloc.Global.{Global}
 use Rattle.std.specs.List.Sorted.{IsPermutation}
 use Rattle.std.proofs.lemmas.List.Sorted.{IsPermutation-map}
 use Rattle.sqlite_value.specs.declared.value.Value.TheVariants.{Int, Blob}
-use Rattle.sqlite_value.specs.Order.{Row}
+use Rattle.sqlite_value.specs.Order.{Row, column}
 use Rattle.tacho_check.specs.declared.files.FileRow.{FileRow}
-use Rattle.tacho_check.specs.declared.file_parsing.FileParts.{FileParts}
 use Rattle.tacho_check.specs.Parsed.{IsFileOf, AreFilesOf}
 use Rattle.tacho_check.specs.Typed.{NeverFall}
-use Rattle.tacho_check.specs.Own.{AreFileParts, shown_of_file, AreFilesInOrder}
+use Rattle.tacho_check.specs.Own.{shown_of_file, AreFilesInOrder}
 use Rattle.tacho_check.proofs.ParsedLemmas.{three_columns}
 
--- numbers that are no card file's
-pub no_number : (a b : ℤ) (file : List ℕ) → ((k : ℕ) → a ≢ pos k) → IsFileOf (Int a ∷ Int b ∷ Blob file ∷ []) None
-no_number a b file never number part bytes e = never number (let g = e in cc)
+-- rows that show no card file
+pub other_length : (row : Row) → length row ≢ 3 → IsFileOf row None
+other_length row other number part file e = other (ap (λ (w : Row). length w) e)
 
-pub no_part : (a b : ℤ) (file : List ℕ) → ((k : ℕ) → b ≢ pos k) → IsFileOf (Int a ∷ Int b ∷ Blob file ∷ []) None
-no_part a b file never number part bytes e = never part (let g = e in cc)
+pub no_number : (row : Row) → ((k : ℕ) → column row 0 ≢ Int (pos k)) → IsFileOf row None
+no_number row never number part file e = never number (ap (λ (w : Row). column w 0) e)
 
-pub is_file : (a b : ℤ) (file : List ℕ) (f : FileRow) → a ≡ pos f.number → b ≡ pos f.part → file ≡ f.file.items
-    → IsFileOf (Int a ∷ Int b ∷ Blob file ∷ []) (Some f)
-is_file a b file f p q r = cc
+pub no_part : (row : Row) → ((k : ℕ) → column row 1 ≢ Int (pos k)) → IsFileOf row None
+no_part row never number part file e = never part (ap (λ (w : Row). column w 1) e)
 
--- the card file of a row with these columns
-pub of_parts : (row : Row) (p : FileParts) (found : Option FileRow) → AreFileParts row p
-    → IsFileOf (Int p.number ∷ Int p.part ∷ Blob p.file.items ∷ []) found → IsFileOf row found
-of_parts row p None are never = λ number part file e.
-    never number part file
-    (sym (three_columns row (Int p.number) (Int p.part) (Blob p.file.items) are.three are.number are.part are.file) ∙ e)
-of_parts row p (Some f) are is =
-    three_columns row (Int p.number) (Int p.part) (Blob p.file.items) are.three are.number are.part are.file ∙ is
+pub no_file : (row : Row) → ((b : List ℕ) → column row 2 ≢ Blob b) → IsFileOf row None
+no_file row never number part file e = never file (ap (λ (w : Row). column w 2) e)
+
+-- a row that shows a card file
+pub is_file : (row : Row) (f : FileRow) (file : List ℕ) → length row ≡ 3 → column row 0 ≡ Int (pos f.number) → column row 1 ≡ Int (pos f.part)
+    → column row 2 ≡ Blob file → f.file.items ≡ file → IsFileOf row (Some f)
+is_file row f file three p q r same =
+    three_columns row (Int (pos f.number)) (Int (pos f.part)) (Blob f.file.items) three p q
+    (r ∙ ap (λ (b : List ℕ). Blob b) (sym same))
 
 -- ---- rows of more than one
 

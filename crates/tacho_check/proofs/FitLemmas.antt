@@ -1,5 +1,6 @@
 -- A driver whose row is stored has a member up to a table exactly if the rows of each table up to it fit.
 use Rattle.std.proofs.Common.{◌≡◌, ◌∙◌, ℕ, zero, suc, pos, ◌≤◌, ◌⊎◌, inl, inr, List, [], ◌∷◌, ◌++◌, append-nil, map, length, refl, sym, ap, subst, arith}
+use Rattle.std.specs.List.{AllByRecursion}
 use Rattle.std.specs.List.Sorted.{IsPermutation}
 use Rattle.sqlite.specs.Order.{Row}
 use Rattle.sqlite_trees.proofs.ListLemmas.{IsPermutation-same}
@@ -12,10 +13,12 @@ use Rattle.tacho_state.specs.Disjoint.{Keeps}
 use Rattle.tacho_state.proofs.DisjointLemmas.{disjoint_canonical, disjoint_agrees}
 use Rattle.tacho_tables.specs.Rows.{DriverRow, driver_row, span_columns, download_columns, entry_columns}
 use Rattle.tacho_state.specs.Content.{AreRead}
+use Rattle.tacho_state.specs.Within.{AreColumns, HasColumns, IsEntry, IsOf}
 use Rattle.tacho_tables.specs.declared.table.TableName.{TableName}
 use Rattle.tacho_tables.specs.declared.table.TableName.TheVariants.{Drivers, Downloads, CardSpans, EntryRows, Held}
 use Rattle.tacho_reading.specs.Standing.{driver_columns, rows_of_downloads, rows_of_entries, span_row}
 use Rattle.tacho_check.specs.Check.{place}
+use Rattle.tacho_check.specs.Registered.{HasOwnColumns, registration_in}
 use Rattle.tacho_check.specs.Member.{Member, member_rows, HasMember}
 use Rattle.tacho_check.specs.Fits.{Agrees, DownloadsFit, CardsFit, EntriesFit, HeldFits}
 use Rattle.tacho_check.proofs.SpreadLemmas.{single}
@@ -52,7 +55,16 @@ unfolding blank_downloads
 blank_read zero = tt
 blank_read (suc n) = ((Both, blank_holder, refl, blank_tells), blank_read n)
 
-module _ (rows : TableName → List Row) (r : DriverRow) (own : rows Drivers ≡ driver_row r ∷ []) where
+-- files of one holder are read, and entries within their limits aren't empty
+own_read : (holder : List ℕ) (ds : List Download) → AllByRecursion (IsOf holder) ds → AreRead ds
+own_read holder [] h = tt
+own_read holder (d ∷ ds) h = ((h.0.0, holder, h.0.1, h.0.2), own_read holder ds h.1)
+
+within_full : (es : List Entry) → AllByRecursion IsEntry es → AreFull es
+within_full [] h = tt
+within_full (e ∷ es) h = (h.0.line.full, within_full es h.1)
+
+module _ (rows : TableName → List Row) (r : DriverRow) (own : rows Drivers ≡ driver_row r ∷ []) (columns : HasOwnColumns r) where
   -- a member with the driver's row
   abbrev member_of : List Download → List Entry → List Span → List Span → Member
   member_of ds es cards held = record {
@@ -84,16 +96,25 @@ module _ (rows : TableName → List Row) (r : DriverRow) (own : rows Drivers ≡
         entries = k;
       }) second
 
+  -- its columns are within their limits then
+  columns_of : (ds : List Download) (es : List Entry) (cards held : List Span) → length ds ≡ r.downloads → length es ≡ r.entries
+      → HasColumns (member_of ds es cards held).driver
+  columns_of ds es cards held first second =
+      subst (λ (k : ℕ). AreColumns (registration_in r) k (length es)) (sym first)
+      (subst (λ (k : ℕ). AreColumns (registration_in r) r.downloads k) (sym second) columns)
+
   -- the rows of a member up to a table, from those of each
   built : (k : TableName) (ds : List Download) (es : List Entry) (cards held : List Span) → AreRead ds → AreFull es
+      → (place Downloads ≤ place k → AllByRecursion (IsOf r.holder) ds) → (place EntryRows ≤ place k → AllByRecursion IsEntry es)
       → Keeps cards (Gives (given_spans ds)) → Keeps held (Gives (given_spans ds ++ entered_spans es))
       → length ds ≡ r.downloads → length es ≡ r.entries
       → ((j : TableName) → 1 ≤ place j → place j ≤ place k → IsPermutation (member_rows j (member_of ds es cards held)) (rows j))
       → HasMember rows (pos r.driver) k
-  built k ds es cards held read full card_keeps held_keeps first second each = record {
+  built k ds es cards held read full files entries card_keeps held_keeps first second each = record {
     member = member_of ds es cards held;
     whole = record { read = read; full = full; cards = card_keeps; held = held_keeps };
     number = refl;
+    within = record { columns = columns_of ds es cards held first second; files = files; entries = entries };
     same = all;
   } where
     all : (j : TableName) → place j ≤ place k → IsPermutation (member_rows j (member_of ds es cards held)) (rows j)
@@ -109,18 +130,20 @@ module _ (rows : TableName → List Row) (r : DriverRow) (own : rows Drivers ≡
   drivers_have =
       let ds = blank_downloads r.downloads in
       let es = blank_entries r.entries in
-      built Drivers ds es [] [] (blank_read r.downloads) (blank_full r.entries) (nothing_kept (given_spans ds) (blank_given r.downloads))
+      built Drivers ds es [] [] (blank_read r.downloads) (blank_full r.entries) (λ before. absurd (omega (arith, before)))
+      (λ before. absurd (omega (arith, before))) (nothing_kept (given_spans ds) (blank_given r.downloads))
       (without_entries [] (given_spans ds) (entered_spans es) (blank_entered r.entries)
       (nothing_kept (given_spans ds) (blank_given r.downloads)))
       (blank_count r.downloads) (entry_count r.entries)
       (λ j after before. absurd (omega (arith, after, before)))
 
-  pub downloads_have : (ds : List Download) → DownloadsFit r.driver r.downloads (rows Downloads) ds
+  pub downloads_have : (ds : List Download) → DownloadsFit r.driver r.holder r.downloads (rows Downloads) ds
       → HasMember rows (pos r.driver) Downloads
   downloads_have ds fit =
       let es = blank_entries r.entries in
       let line = kept_list (given_spans ds) fit.agrees in
-      built Downloads ds es line.0 line.0 fit.read (blank_full r.entries) line.1
+      built Downloads ds es line.0 line.0 (own_read r.holder ds fit.own) (blank_full r.entries) (λ before. fit.own)
+      (λ before. absurd (omega (arith, before))) line.1
       (without_entries line.0 (given_spans ds) (entered_spans es) (blank_entered r.entries) line.1) fit.count_is (entry_count r.entries)
       (each es line.0) where
         each : (es : List Entry) (line : List Span) (j : TableName) → 1 ≤ place j → place j ≤ place Downloads
@@ -131,11 +154,12 @@ module _ (rows : TableName → List Row) (r : DriverRow) (own : rows Drivers ≡
         each es line EntryRows after before = absurd (omega (arith, before))
         each es line Held after before = absurd (omega (arith, before))
 
-  pub cards_have : (ds : List Download) (cards : List Span) → DownloadsFit r.driver r.downloads (rows Downloads) ds
+  pub cards_have : (ds : List Download) (cards : List Span) → DownloadsFit r.driver r.holder r.downloads (rows Downloads) ds
       → CardsFit r.driver (rows CardSpans) ds cards → HasMember rows (pos r.driver) CardSpans
   cards_have ds cards fit card_fit =
       let es = blank_entries r.entries in
-      built CardSpans ds es cards cards fit.read (blank_full r.entries) card_fit.keeps
+      built CardSpans ds es cards cards (own_read r.holder ds fit.own) (blank_full r.entries) (λ before. fit.own)
+      (λ before. absurd (omega (arith, before))) card_fit.keeps
       (without_entries cards (given_spans ds) (entered_spans es) (blank_entered r.entries) card_fit.keeps) fit.count_is
       (entry_count r.entries)
       (each es) where
@@ -147,12 +171,13 @@ module _ (rows : TableName → List Row) (r : DriverRow) (own : rows Drivers ≡
         each es EntryRows after before = absurd (omega (arith, before))
         each es Held after before = absurd (omega (arith, before))
 
-  pub entries_have : (ds : List Download) (cards : List Span) (es : List Entry) → DownloadsFit r.driver r.downloads (rows Downloads) ds
+  pub entries_have : (ds : List Download) (cards : List Span) (es : List Entry) → DownloadsFit r.driver r.holder r.downloads (rows Downloads) ds
       → CardsFit r.driver (rows CardSpans) ds cards → EntriesFit r.driver r.entries (rows EntryRows) ds es
       → HasMember rows (pos r.driver) EntryRows
   entries_have ds cards es fit card_fit entry_fit =
       let line = kept_list (given_spans ds ++ entered_spans es) entry_fit.agrees in
-      built EntryRows ds es cards line.0 fit.read entry_fit.full card_fit.keeps line.1 fit.count_is entry_fit.count_is (each line.0) where
+      built EntryRows ds es cards line.0 (own_read r.holder ds fit.own) (within_full es entry_fit.within) (λ before. fit.own)
+      (λ before. entry_fit.within) card_fit.keeps line.1 fit.count_is entry_fit.count_is (each line.0) where
         each : (line : List Span) (j : TableName) → 1 ≤ place j → place j ≤ place EntryRows
             → IsPermutation (member_rows j (member_of ds es cards line)) (rows j)
         each line Drivers after before = absurd (omega (arith, after))
@@ -162,12 +187,13 @@ module _ (rows : TableName → List Row) (r : DriverRow) (own : rows Drivers ≡
         each line Held after before = absurd (omega (arith, before))
 
   pub held_has : (ds : List Download) (cards : List Span) (es : List Entry) (held : List Span)
-      → DownloadsFit r.driver r.downloads (rows Downloads) ds
+      → DownloadsFit r.driver r.holder r.downloads (rows Downloads) ds
       → CardsFit r.driver (rows CardSpans) ds cards → EntriesFit r.driver r.entries (rows EntryRows) ds es
       → HeldFits r.driver (rows Held) ds es held
       → HasMember rows (pos r.driver) Held
   held_has ds cards es held fit card_fit entry_fit held_fit =
-      built Held ds es cards held fit.read entry_fit.full card_fit.keeps held_fit.keeps fit.count_is entry_fit.count_is each where
+      built Held ds es cards held (own_read r.holder ds fit.own) (within_full es entry_fit.within) (λ before. fit.own)
+      (λ before. entry_fit.within) card_fit.keeps held_fit.keeps fit.count_is entry_fit.count_is each where
         each : (j : TableName) → 1 ≤ place j → place j ≤ place Held → IsPermutation (member_rows j (member_of ds es cards held)) (rows j)
         each Drivers after before = absurd (omega (arith, after))
         each Downloads after before = fit.same
@@ -194,9 +220,12 @@ module _ (rows : TableName → List Row) (r : DriverRow) (own : rows Drivers ≡
     same_entries : length it.member.driver.entries ≡ r.entries
     same_entries = let e = own_columns in cc
 
-    pub fits_downloads : place Downloads ≤ place k → DownloadsFit r.driver r.downloads (rows Downloads) it.member.driver.downloads
+    same_holder : it.member.driver.holder ≡ r.holder
+    same_holder = let e = own_columns in cc
+
+    pub fits_downloads : place Downloads ≤ place k → DownloadsFit r.driver r.holder r.downloads (rows Downloads) it.member.driver.downloads
     fits_downloads before = record {
-      read = it.whole.read;
+      own = subst (λ (h : List ℕ). AllByRecursion (IsOf h) it.member.driver.downloads) same_holder (it.within.files before);
       same = subst (λ (i : ℕ). IsPermutation (map download_columns (rows_of_downloads i 1 it.member.driver.downloads)) (rows Downloads))
           same_number (it.same Downloads before);
       count_is = same_downloads;
@@ -213,7 +242,7 @@ module _ (rows : TableName → List Row) (r : DriverRow) (own : rows Drivers ≡
     pub fits_entries : place EntryRows ≤ place k → EntriesFit r.driver r.entries
         (rows EntryRows) it.member.driver.downloads it.member.driver.entries
     fits_entries before = record {
-      full = it.whole.full;
+      within = it.within.entries before;
       same = subst (λ (i : ℕ). IsPermutation (map entry_columns (rows_of_entries i 1 it.member.driver.entries)) (rows EntryRows))
           same_number (it.same EntryRows before);
       count_is = same_entries;

@@ -1,22 +1,24 @@
 -- Spans that are sorted by their starts are disjoint exactly if they rise; disjoint spans keep what other spans give exactly if both have
 -- the same canonical list.
-use Rattle.std.proofs.Common.{◌≡◌, ◌∙◌, ℕ, suc, ◌<◌, ◌≤◌, ◌⊎◌, inl, inr, ◌↔◌, Bool, true, false, List, [], ◌∷◌, length, Option, None, Some, refl, sym, subst, arith}
+use Rattle.std.proofs.Common.{◌≡◌, ◌∙◌, ℕ, suc, ◌<◌, ◌≤◌, ◌==◌, ◌&&◌, ◌⊎◌, inl, inr, ◌↔◌, Bool, true, false, List, [], ◌∷◌, length, Option, None, Some, refl, sym, ap, subst, arith}
+use Rattle.std.proofs.lemmas.Bool.Decides.{nat_tests}
 use Rattle.std.specs.Prelude.{Vec, IsTrue}
 use Rattle.std.specs.declared.alloc.Global.{Global}
 use Rattle.std.specs.List.{slice_index_or}
 use Rattle.std.specs.List.Sorted.{IsPermutation, IsNonDecreasingBy}
-use Rattle.std.proofs.lemmas.List.Sorted.{IsPermutation-map, IsPermutation-sym}
+use Rattle.std.proofs.lemmas.List.Sorted.{IsPermutation-sym}
 use Rattle.tacho_time.specs.declared.span.Span.{Span}
 use Rattle.tacho_time.specs.declared.span.Mark.{Mark}
 use Rattle.tacho_time.specs.Spans.{Gives, GiveSame, SamePairs, IsCanonicalOf, Conflicts}
-use Rattle.tacho_time.proofs.CanonicalLemmas.{lt_or_le, one_list}
+use Rattle.tacho_time.specs.declared.span.Activity.{Activity}
+use Rattle.tacho_time.specs.declared.span.Activity.TheVariants.{Rest, Available, Work, Drive}
+use Rattle.tacho_time.specs.Merge.{same_mark}
+use Rattle.tacho_time.proofs.CanonicalLemmas.{both_true, marks_equal, lt_or_le, one_list}
 use Rattle.tacho_line.specs.Join.{ShareNone}
 use Rattle.tacho_state.specs.Disjoint.{AreDisjoint, Keeps}
 use Rattle.tacho_state.proofs.DisjointLemmas.{disjoint_agrees}
 use Rattle.tacho_state.proofs.OrderLemmas.{disjoint_moved}
-use Rattle.tacho_check.specs.declared.wide.Wide.{Wide}
-use Rattle.tacho_check.specs.Wide.{wide_span, wide_spans, same_lists, same_found, Rise, IsListOf}
-use Rattle.tacho_check.proofs.WideLemmas.{sorted_wide, lists_equal, lists_same}
+use Rattle.tacho_check.specs.Keeping.{same_span, same_lists, same_found, Rise, IsListOf}
 
 -- ---- rising spans
 
@@ -63,16 +65,72 @@ disjoint_rise n (s ∷ ss) h up low = (
 )
 
 -- the test of sorted spans decides whether the spans are disjoint
-pub decides_disjoint : (ws sorted : List Wide) → IsPermutation ws sorted → IsNonDecreasingBy (λ w. w.start) sorted
-    → (b : Bool) → (IsTrue b ↔ Rise 0 (wide_spans sorted)) → (IsTrue b ↔ AreDisjoint (wide_spans ws))
-decides_disjoint ws sorted moved up b h =
-    let there : IsPermutation (wide_spans ws) (wide_spans sorted) = IsPermutation-map wide_span ws sorted moved in
-    let back = IsPermutation-sym (wide_spans ws) (wide_spans sorted) there in (
-      λ is. disjoint_moved (wide_spans sorted) (wide_spans ws) back (rise_disjoint 0 (wide_spans sorted) (h.0 is)),
-      λ apart. h.1 (disjoint_rise 0 (wide_spans sorted) (disjoint_moved (wide_spans ws) (wide_spans sorted) there apart)
-          (sorted_wide sorted up)
-          (λ d some. omega arith)),
-    )
+pub decides_disjoint : (spans sorted : List Span) → IsPermutation spans sorted → IsNonDecreasingBy (λ s. s.start) sorted
+    → (b : Bool) → (IsTrue b ↔ Rise 0 sorted) → (IsTrue b ↔ AreDisjoint spans)
+decides_disjoint spans sorted moved up b h = (
+  (λ is. disjoint_moved sorted spans (IsPermutation-sym spans sorted moved) (rise_disjoint 0 sorted (h.0 is))),
+  λ apart. h.1 (disjoint_rise 0 sorted (disjoint_moved spans sorted moved apart) up (λ d some. omega arith)),
+)
+
+-- ---- equal lists
+
+-- a list without elements is empty
+pub nil_of : {A : Type 0} (xs : List A) → length xs ≡ 0 → xs ≡ []
+nil_of [] none = refl
+nil_of (x ∷ xs) none = absurd (omega (arith, none))
+
+-- a number passes the test with itself
+eq_self : (n : ℕ) → (n == n) ≡ true
+eq_self n = grind (arith, nat_tests)
+
+-- a mark is the same as itself
+mark_self : (a : Activity) (crew : Bool) → same_mark (record { activity = a; crew = crew }) (record { activity = a; crew = crew }) ≡ true
+mark_self Rest true = refl
+mark_self Rest false = refl
+mark_self Available true = refl
+mark_self Available false = refl
+mark_self Work true = refl
+mark_self Work false = refl
+mark_self Drive true = refl
+mark_self Drive false = refl
+
+-- numbers that pass the test are equal
+eq_true : (j n : ℕ) → (j == n) ≡ true → j ≡ n
+eq_true j n e = grind (arith, nat_tests)
+
+-- spans that pass the test are equal
+span_equal : (s t : Span) → same_span s t ≡ true → s ≡ t
+span_equal s t h =
+    let parts = both_true ((s.start == t.start) && (s.past == t.past)) (same_mark s.mark t.mark) h in
+    let bounds = both_true (s.start == t.start) (s.past == t.past) parts.0 in
+    let from : s.start ≡ t.start = eq_true s.start t.start bounds.0 in
+    let past : s.past ≡ t.past = eq_true s.past t.past bounds.1 in
+    let mark = marks_equal s.mark t.mark parts.1 in
+    let one : s ≡ record { start = t.start; past = s.past; mark = s.mark } =
+    ap (λ (x : ℕ). record { start = x; past = s.past; mark = s.mark }) from in
+    let two : record { start = t.start; past = s.past; mark = s.mark } ≡ record { start = t.start; past = t.past; mark = s.mark } =
+    ap (λ (x : ℕ). record { start = t.start; past = x; mark = s.mark }) past in
+    let three : record { start = t.start; past = t.past; mark = s.mark } ≡ t =
+    ap (λ x. record { start = t.start; past = t.past; mark = x }) mark in
+    one ∙ two ∙ three
+
+-- lists that pass the test are equal
+lists_equal : (xs ys : List Span) → same_lists xs ys ≡ true → xs ≡ ys
+lists_equal [] [] h = refl
+lists_equal [] (y ∷ ys) h = cc
+lists_equal (x ∷ xs) [] h = cc
+lists_equal (x ∷ xs) (y ∷ ys) h =
+    let parts = both_true (same_span x y) (same_lists xs ys) h in
+    ap (λ z. z ∷ xs) (span_equal x y parts.0) ∙ ap (λ zs. y ∷ zs) (lists_equal xs ys parts.1)
+
+-- a span passes the test with itself
+span_same : (s : Span) → same_span s s ≡ true
+span_same s = rw (eq_self s.start, eq_self s.past, mark_self s.mark.activity s.mark.crew) refl
+
+-- so does a list
+lists_same : (xs : List Span) → same_lists xs xs ≡ true
+lists_same [] = refl
+lists_same (x ∷ xs) = rw (span_same x, lists_same xs) refl
 
 -- ---- what disjoint spans give
 
@@ -99,16 +157,15 @@ same_conflict : (xs ys : List Span) (m : ℕ) → GiveSame xs ys → Conflicts (
 same_conflict xs ys m h c = (c.0, c.1, (h m c.0).1 c.2, (h m c.1).1 c.3, c.4)
 
 -- the test decides whether disjoint spans give what other spans give
-pub decides_same : (ws given : List Wide) (own others : Option (Vec Wide Global)) → AreDisjoint (wide_spans ws) → IsListOf ws own
-    → IsListOf given others → (IsTrue (same_found own others) ↔ GiveSame (wide_spans ws) (wide_spans given))
-decides_same ws given (Some a) (Some b) apart p q =
-    same_given (wide_spans ws) (wide_spans given) (wide_spans a.items) (wide_spans b.items) p q
+pub decides_same : (ws given : List Span) (own others : Option (Vec Span Global)) → AreDisjoint ws → IsListOf ws own
+    → IsListOf given others → (IsTrue (same_found own others) ↔ GiveSame ws given)
+decides_same ws given (Some a) (Some b) apart p q = same_given ws given a.items b.items p q
 decides_same ws given (Some a) None apart p q = (
   (λ no. let e : false ≡ true = no in cc),
   λ h. absurd
-      (disjoint_agrees (wide_spans ws) q.0 apart (same_conflict (wide_spans ws) (wide_spans given) q.0 h q.1.0)),
+      (disjoint_agrees ws q.0 apart (same_conflict ws given q.0 h q.1.0)),
 )
-decides_same ws given None b apart p q = absurd (disjoint_agrees (wide_spans ws) p.0 apart p.1.0)
+decides_same ws given None b apart p q = absurd (disjoint_agrees ws p.0 apart p.1.0)
 
 -- ---- spans that keep what others give
 

@@ -1,5 +1,6 @@
 mod UnsoundLemmas
-mod WideLemmas
+mod CellLemmas
+mod CalendarLemmas
 mod KeepLemmas
 mod FileLemmas
 mod MemberLemmas

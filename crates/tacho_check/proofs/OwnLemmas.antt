@@ -23,10 +23,10 @@ use Rattle.tacho_tables.specs.declared.table.TableName.{TableName}
 use Rattle.tacho_tables.specs.declared.table.TableName.TheVariants.{Drivers, Downloads, CardSpans, EntryRows, Held}
 use Rattle.tacho_tables.specs.Readable.{is_number, is_own, own_rows, stored_rows}
 use Rattle.tacho_tables.specs.Ask.{own_in}
-use Rattle.tacho_state.proofs.PutLemmas.{found_number}
+use Rattle.tacho_state.proofs.PutLemmas.{found_all, found_number}
 use Rattle.tacho_reading.proofs.StateLemmas.{found_of}
 use Rattle.tacho_reading.proofs.DriverRowLemmas.{no_number_row}
-use Rattle.tacho_check.specs.Check.{place, typed_rows, Agree, IsSoundAt}
+use Rattle.tacho_check.specs.Check.{place, typed_rows, Agree, IsWithinUpTo, IsSoundAt}
 use Rattle.tacho_check.specs.Member.{Member, IsWhole, downloads_in, cards_in, entries_in, held_in, member_rows, state_of, tables_of, HasNoRows, IsOwnSound}
 use Rattle.tacho_check.proofs.MemberLemmas.{pass_all, one_of, downloads_own, entries_own, spans_own, members_represent}
 
@@ -178,6 +178,7 @@ module _ (layout : Layout) (db : Trees) (k : TableName) where
           member = found h.1 h.0 h.2 d;
           whole = found_whole h.1 h.0 h.2 d rows;
           number = ap pos (sym number);
+          within = found_all (IsWithinUpTo k) n h.0 d h.4 e;
           same = λ j before. subst (λ (xs : List Row). IsPermutation xs (own_rows (pos n) (stored_rows layout j db)))
               (subst (λ (m : ℕ). own_rows (pos m) (typed_rows j h.1) ≡ member_rows j (found h.1 h.0 h.2 d)) number
               (found_rows h.1 h.0 h.2 d is rows j)) (h.3 j before);
@@ -220,15 +221,17 @@ own_sound layout db k n (inl none) = (
   [],
   tables_of [],
   members_represent [] tt tt,
-  λ j before. IsPermutation-same _ _ (empty_typed n j ∙ sym (none j before)),
+  (λ j before. IsPermutation-same _ _ (empty_typed n j ∙ sym (none j before))),
+  tt,
 )
 own_sound layout db k n (inr it) =
     let m = it.member in (
       state_of (m ∷ []),
       tables_of (m ∷ []),
       members_represent (m ∷ []) (it.whole, tt) (tt, tt, tt, tt),
-      λ j before.
+      (λ j before.
           let same : own_rows n (typed_rows j (tables_of (m ∷ []))) ≡ member_rows j m =
           subst (λ (z : ℤ). own_rows z (typed_rows j (tables_of (m ∷ []))) ≡ member_rows j m) (sym it.number) (one_typed m it.whole j) in
-          subst (λ (xs : List Row). IsPermutation xs (own_rows n (stored_rows layout j db))) (sym same) (it.same j before),
+          subst (λ (xs : List Row). IsPermutation xs (own_rows n (stored_rows layout j db))) (sym same) (it.same j before)),
+      (it.within, tt),
     )

@@ -21,12 +21,10 @@ use Rattle.tacho_tables.specs.Readable.{is_number, is_own, own_rows}
 use Rattle.tacho_tables.specs.Ask.{three_shown, Show}
 use Rattle.tacho_tables.proofs.UniqueLemmas.{HasDriver}
 use Rattle.tacho_reading.specs.Standing.{span_row}
-use Rattle.tacho_check.specs.declared.wide.Wide.{Wide}
-use Rattle.tacho_check.specs.Wide.{wide_spans}
-use Rattle.tacho_check.specs.Parsed.{span_shown, AreSpansOf}
+use Rattle.tacho_check.specs.Parsed.{span_shown, IsInCalendar, AreSpansOf}
 use Rattle.tacho_check.specs.Judged.{AreSpansRead}
 use Rattle.tacho_check.proofs.SpreadLemmas.{has_unmapped}
-use Rattle.tacho_check.proofs.ParsedLemmas.{parsed, unparsed}
+use Rattle.tacho_check.proofs.ParsedLemmas.{parsed, unparsed_of}
 
 -- the stored columns of a table have the types of its schema
 abbrev pub HasTypes : List Column → List Row → Type 0
@@ -86,15 +84,15 @@ span_made n w own s e =
 
 -- spans that were parsed from what readings show are read, or no spans have these rows
 pub spans_are_read : (n : ℕ) (rows found : List Row) → HasDriver rows → HasTypes (made.spans []).columns rows
-    → Show three_shown (own_rows (pos n) (map (drop 1) rows)) found → (spans : Option (Vec Wide Global)) → AreSpansOf found spans
+    → Show three_shown (own_rows (pos n) (map (drop 1) rows)) found → (spans : Option (Vec Span Global)) → AreSpansOf found spans
     → AreSpansRead n (own_rows (pos n) (map (drop 1) rows)) spans
-spans_are_read n rows found has types shown None (bad, there, never) = λ spans moved.
-    unparsed span_shown (λ (s : Span). span_columns (span_row n s)) three_shown (λ s. refl)
-    (own_rows (pos n) (map (drop 1) rows)) found bad shown there never spans
+spans_are_read n rows found has types shown None (bad, there, never) = λ spans within moved.
+    unparsed_of IsInCalendar span_shown (λ (s : Span). span_columns (span_row n s)) three_shown (λ s. refl)
+    (own_rows (pos n) (map (drop 1) rows)) found bad shown there never spans within
     (subst (λ (xs : List Row). IsPermutation xs (own_rows (pos n) (map (drop 1) rows))) (map-map span_columns (span_row n) spans) moved)
 spans_are_read n rows found has types shown (Some spans) is =
     subst (λ (xs : List Row). IsPermutation xs (own_rows (pos n) (map (drop 1) rows)))
-    (sym (map-map span_columns (span_row n) (wide_spans spans.items)))
+    (sym (map-map span_columns (span_row n) spans.items))
     (parsed span_shown (λ (s : Span). span_columns (span_row n s)) three_shown (IsOwnRow n (made.spans []).columns)
     (λ w own s e. span_made n w own s e)
-    (own_rows (pos n) (map (drop 1) rows)) found (wide_spans spans.items) (own_rows_are n (made.spans []).columns rows has types) shown is)
+    (own_rows (pos n) (map (drop 1) rows)) found spans.items (own_rows_are n (made.spans []).columns rows has types) shown is)

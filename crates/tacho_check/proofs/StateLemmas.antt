@@ -10,6 +10,7 @@ use Rattle.sqlite_rules.specs.Lists.{Has}
 use Rattle.sqlite_rules.proofs.ListLemmas.{has_filtered, has_kept}
 use Rattle.tacho_state.specs.Distinct.{HasNot, HasNoKey, IsHolderFree, AreDistinct}
 use Rattle.tacho_state.specs.State.{State}
+use Rattle.tacho_state.specs.Within.{AreWithinLimits}
 use Rattle.tacho_tables.specs.Schema.{Layout}
 use Rattle.tacho_tables.specs.Schema as made
 use Rattle.tacho_tables.specs.Rows.{span_columns, download_columns, entry_columns, driver_row}
@@ -19,9 +20,9 @@ use Rattle.tacho_tables.specs.Readable.{is_number, is_own, own_rows, stored_rows
 use Rattle.tacho_tables.specs.Ask.{own_in}
 use Rattle.tacho_tables.proofs.UniqueLemmas.{HasDriver, downloads_have, card_spans_have, entries_have, held_have, holders_differ, keys_differ}
 use Rattle.tacho_reading.specs.Standing.{Represents, driver_columns}
-use Rattle.tacho_check.specs.Check.{place, IsSoundAt}
+use Rattle.tacho_check.specs.Check.{place, IsSoundAt, IsWithinUpTo}
 use Rattle.tacho_check.specs.Member.{Member, IsWhole, downloads_in, cards_in, entries_in, held_in, member_rows, state_of, tables_of, HasMember, IsOwnSound}
-use Rattle.tacho_check.proofs.WideLemmas.{nil_of}
+use Rattle.tacho_check.proofs.KeepLemmas.{nil_of}
 use Rattle.tacho_check.proofs.MemberLemmas.{not_there, members_represent}
 use Rattle.tacho_check.proofs.OwnLemmas.{sound_own}
 use Rattle.tacho_check.proofs.SpreadLemmas.{has_unmapped, single, int_self, table_stands}
@@ -102,6 +103,7 @@ module _ (layout : Layout) (db : Trees) (it : IsReadable layout db) (sounds : (n
   -- a member whose rows are stored
   record IsStored (m : Member) : Type 0 where
     whole : IsWhole m
+    within : IsWithinUpTo Held m.driver
     rows : (j : TableName) → IsPermutation (member_rows j m) (own_rows (pos m.driver.number) (stored_rows layout j db))
 
   -- the one row of a driver in `drivers`
@@ -123,6 +125,7 @@ module _ (layout : Layout) (db : Trees) (it : IsReadable layout db) (sounds : (n
       m.member,
       record {
         whole = m.whole;
+        within = m.within;
         rows = λ j. subst (λ (z : ℤ). IsPermutation (member_rows j m.member) (own_rows z (stored_rows layout j db))) m.number
             (m.same j (before_last j));
       },
@@ -197,7 +200,7 @@ module _ (layout : Layout) (db : Trees) (it : IsReadable layout db) (sounds : (n
         (one.0, one.1, ap (is_number (pos one.0.driver.number)) (first ∙ is) ∙ int_self (pos one.0.driver.number))
 
   -- all rows represent the members' state
-  pub all_rows : (s : State) × Represents db s
+  pub all_rows : (s : State) × Represents db s × AreWithinLimits s
   unfolding Represents
   all_rows = (
     state_of members.0,
@@ -225,10 +228,17 @@ module _ (layout : Layout) (db : Trees) (it : IsReadable layout db) (sounds : (n
       },
       members_represent members.0 (whole members.0 members.1) are_distinct,
     ),
+    limits members.0 members.1,
   ) where
     whole : (ms : List Member) → AllByRecursion IsStored ms → AllByRecursion IsWhole ms
     whole [] h = tt
     whole (m ∷ ms) h = (h.0.whole, whole ms h.1)
+
+    limits : (ms : List Member) → AllByRecursion IsStored ms → AreWithinLimits (state_of ms)
+    limits [] h = tt
+    limits (m ∷ ms) h =
+        let w = h.0.within in
+        (record { columns = w.columns; files = w.files (omega arith); entries = w.entries (omega arith) }, limits ms h.1)
 
     rows : (j : TableName) (ms : List Member) → AllByRecursion IsStored ms
         → AllByRecursion (λ (m : Member). IsPermutation (member_rows j m) (own_rows (pos m.driver.number) (stored_rows layout j db))) ms
@@ -240,7 +250,7 @@ module _ (layout : Layout) (db : Trees) (it : IsReadable layout db) (sounds : (n
         members.0
     stored_in j = rows j members.0 members.1
 
--- the rows of each driver are sound, so all of them represent a state
-pub all_represent : (layout : Layout) (db : Trees) → IsReadable layout db → ((n : ℤ) → IsSoundAt layout db n Held) → (s : State)
-    × Represents db s
+-- the rows of each driver are sound, so all of them represent a state within its limits
+pub all_represent : (layout : Layout) (db : Trees) → IsReadable layout db → ((n : ℤ) → IsSoundAt layout db n Held)
+    → (s : State) × Represents db s × AreWithinLimits s
 all_represent layout db it sounds = all_rows layout db it sounds

@@ -1,9 +1,11 @@
--- Trusted: Whether the stored rows of a driver are those of some state, judged table by table.
+-- Trusted: Whether the stored rows of a driver are those of some state within its limits, judged table by table.
 use Rattle.std.specs.Prelude.{ℕ, ℤ, ◌<◌, ◌≤◌, ◌<ℤ◌, List, map, IsPermutation}
+use Rattle.std.specs.List.{AllByRecursion}
 use Rattle.sqlite.specs.Order.{Row}
 use Rattle.sqlite.specs.Tree.{Trees}
 use Rattle.sqlite_catalog.specs.Listing.{IsSound}
-use Rattle.tacho_state.specs.State.{State}
+use Rattle.tacho_state.specs.State.{Driver, State}
+use Rattle.tacho_state.specs.Within.{AreOwnFiles, HasColumns, IsEntry}
 use Rattle.tacho_tables.specs.Schema.{Layout, archive_schema}
 use Rattle.tacho_tables.specs.Rows.{span_columns, download_columns, entry_columns, driver_row}
 use Rattle.tacho_tables.specs.Tables.{Tables}
@@ -39,10 +41,17 @@ AgreeUpTo layout db n t k = (j : TableName) → place j ≤ place k → Agree la
 
 -- ---- soundness
 
--- The driver's rows are sound up to a table: the tables of some state have exactly the driver's stored rows in this table and in those
--- before it. The rows of the other drivers, and those in later tables, may differ.
+-- a driver is within their limits, as far as their rows up to a table say: their own columns, their card files, and their entries
+pub record IsWithinUpTo (k : TableName) (d : Driver) : Type 0 where
+  pub columns : HasColumns d
+  pub files : place Downloads ≤ place k → AreOwnFiles d
+  pub entries : place EntryRows ≤ place k → AllByRecursion IsEntry d.entries
+
+-- The driver's rows are sound up to a table: the tables of some state within its limits have exactly the driver's stored rows in this table
+-- and in those before it. The rows of the other drivers, and those in later tables, may differ.
 abbrev pub IsSoundAt : Layout → Trees → ℤ → TableName → Type 0
-IsSoundAt layout db n k = (s : State) × (t : Tables) × TablesRepresent t s × AgreeUpTo layout db n t k
+IsSoundAt layout db n k =
+    (s : State) × (t : Tables) × TablesRepresent t s × AgreeUpTo layout db n t k × AllByRecursion (IsWithinUpTo k) s
 
 -- the first table at which the driver's rows aren't sound
 pub record IsUnsoundAt (layout : Layout) (db : Trees) (n : ℤ) (k : TableName) : Type 0 where

@@ -7,6 +7,7 @@ use Rattle.sqlite.specs.Store.{Ghosts}
 use Rattle.sqlite.specs.Tree.{Trees}
 use Rattle.tacho_state.specs.declared.fault.StoreFault.{StoreFault}
 use Rattle.tacho_state.specs.State.{State}
+use Rattle.tacho_state.specs.Within.{AreWithinLimits}
 use Rattle.tacho_tables.specs.Schema.{Layout}
 use Rattle.tacho_tables.specs.Tables.{IsArchive}
 use Rattle.tacho_tables.specs.declared.table.TableName.TheVariants.{Held}
@@ -18,9 +19,9 @@ use Rattle.tacho_check.specs.Check.{IsSoundAt, IsFirstUnsound}
 abbrev pub AreSoundIn : Layout → Trees → List ℤ → Type 0
 AreSoundIn layout db numbers = AllByRecursion (λ m. IsSoundAt layout db m Held) numbers
 
--- the rows represent a state, or these are the first that no state has
+-- the rows represent a state within its limits, or these are the first that no such state has
 abbrev pub IsChecked : Layout → Trees → Option Unsound → Type 0
-IsChecked layout db None = (s : State) × Represents db s
+IsChecked layout db None = (s : State) × Represents db s × AreWithinLimits s
 IsChecked layout db (Some u) = IsFirstUnsound db u
 
 -- A question to an archive, outside a transaction, whose answer is a fact of the stored rows. It changes nothing: the connection sees the

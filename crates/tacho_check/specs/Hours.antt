@@ -1,21 +1,20 @@
 -- Private to tacho_check: Stored entries, without their authors and notes.
-use Rattle.std.specs.Prelude.{◌≡◌, ℕ, ◌+◌, ◌<◌, ◌==◌, false, List, [], ◌∷◌, ◌++◌, if◌then◌else◌}
+use Rattle.std.specs.Prelude.{◌≡◌, ℕ, ◌+◌, false, List, [], ◌∷◌, ◌++◌, if◌then◌else◌}
 use Rattle.tacho_time.specs.declared.span.Span.{Span}
-use Rattle.tacho_state.specs.Numbers.{numbered_activity}
 use Rattle.tacho_check.specs.declared.hours.HoursRow.{HoursRow}
 
--- the rows are numbered from i on, none is empty, and each has the number of an activity and a 0 or a 1
+-- the rows are numbered from i on
 abbrev pub AreInOrder : ℕ → List HoursRow → Type 0
 AreInOrder i [] = Unit {0}
-AreInOrder i (r ∷ rows) = (r.number ≡ i) × (r.start < r.past) × (r.mark < 4) × (r.withdrawn < 2) × AreInOrder (i + 1) rows
+AreInOrder i (r ∷ rows) = (r.number ≡ i) × AreInOrder (i + 1) rows
 
 -- the span of a row: the driver is alone
 abbrev pub hours_span : HoursRow → Span
-hours_span r = record { start = r.start; past = r.past; mark = record { activity = numbered_activity r.mark; crew = false } }
+hours_span r = record { start = r.start; past = r.past; mark = record { activity = r.activity; crew = false } }
 
 -- what a row gives: nothing, if it is withdrawn
 abbrev pub kept_hours : HoursRow → List Span
-kept_hours r = if r.withdrawn == 0 then hours_span r ∷ [] else []
+kept_hours r = if r.withdrawn then [] else hours_span r ∷ []
 
 -- what all rows give
 abbrev pub entered_hours : List HoursRow → List Span

@@ -1,22 +1,24 @@
 -- Private to tacho_check: The judgement of a driver who has a row in `drivers`.
 use Rattle.std.specs.Prelude.{◌≡◌, ◌≢◌, ℕ, ℤ, ◌<◌, Bool, true, false, List, [], ◌∷◌, ◌++◌, map, length, Option, None, Some, Vec, IsPermutation, if◌then◌else◌}
+use Rattle.std.specs.List.{AllByRecursion}
 use Rattle.std.specs.declared.alloc.Global.{Global}
 use Rattle.sqlite.specs.Order.{Row}
 use Rattle.tacho_time.specs.declared.span.Span.{Span}
 use Rattle.tacho_time.specs.Spans.{Gives}
 use Rattle.tacho_state.specs.State.{Download, Entry}
 use Rattle.tacho_state.specs.Disjoint.{Keeps}
+use Rattle.tacho_state.specs.Within.{IsEntry}
 use Rattle.tacho_tables.specs.Rows.{DriverRow, driver_row, span_columns, download_columns, entry_columns}
 use Rattle.tacho_tables.specs.declared.table.TableName.{TableName}
 use Rattle.tacho_tables.specs.declared.table.TableName.TheVariants.{Drivers, Downloads, CardSpans, EntryRows, Held}
 use Rattle.tacho_reading.specs.Standing.{rows_of_downloads, rows_of_entries, span_row}
 use Rattle.tacho_check.specs.declared.files.FileRow.{FileRow}
 use Rattle.tacho_check.specs.declared.hours.HoursRow.{HoursRow}
-use Rattle.tacho_check.specs.declared.wide.Wide.{Wide}
-use Rattle.tacho_check.specs.declared.judgement.Counts.{Counts}
+use Rattle.tacho_check.specs.declared.registered.Basis.{Basis}
 use Rattle.tacho_check.specs.Check.{place}
 use Rattle.tacho_check.specs.Member.{IsOwnSound}
-use Rattle.tacho_check.specs.Wide.{wide_spans}
+use Rattle.tacho_check.specs.Parsed.{IsInCalendar}
+use Rattle.tacho_check.specs.Registered.{HasOwnColumns, HasBasis}
 use Rattle.tacho_check.specs.Hours.{AreInOrder, entered_hours}
 use Rattle.tacho_check.specs.Files.{Give, AreNumberedFrom}
 use Rattle.tacho_check.specs.Typed.{NeverFall, AreFiles, AreHours, AreSpans}
@@ -28,20 +30,20 @@ abbrev pub AreFilesRead : ℕ → List Row → Option (Vec FileRow Global) → T
 AreFilesRead n rows None = (ds : List Download) → ¬ (IsPermutation (map download_columns (rows_of_downloads n 1 ds)) rows)
 AreFilesRead n rows (Some files) = AreFiles n rows files.items × NeverFall 0 (map (λ (f : FileRow). f.number) files.items)
 
-abbrev pub AreSpansRead : ℕ → List Row → Option (Vec Wide Global) → Type 0
-AreSpansRead n rows None = (spans : List Span) → ¬ (IsPermutation (map span_columns (map (span_row n) spans)) rows)
+abbrev pub AreSpansRead : ℕ → List Row → Option (Vec Span Global) → Type 0
+AreSpansRead n rows None = (spans : List Span) → AllByRecursion IsInCalendar spans → ¬ (IsPermutation (map span_columns (map (span_row n) spans)) rows)
 AreSpansRead n rows (Some spans) = AreSpans n rows spans.items
 
 abbrev pub AreHoursRead : ℕ → List Row → Option (Vec HoursRow Global) → Type 0
-AreHoursRead n rows None = (es : List Entry) → ¬ (IsPermutation (map entry_columns (rows_of_entries n 1 es)) rows)
+AreHoursRead n rows None = (es : List Entry) → AllByRecursion IsEntry es → ¬ (IsPermutation (map entry_columns (rows_of_entries n 1 es)) rows)
 AreHoursRead n rows (Some hours) = AreHours n rows hours.items × NeverFall 0 (map (λ (h : HoursRow). h.number) hours.items)
 
 -- all rows of a driver were read
-pub record IsReadDriver (rows : TableName → List Row) (r : DriverRow) (counts : Counts) (files : Option (Vec FileRow Global))
-    (cards : Option (Vec Wide Global)) (hours : Option (Vec HoursRow Global)) (held : Option (Vec Wide Global)) : Type 0 where
+pub record IsReadDriver (rows : TableName → List Row) (r : DriverRow) (basis : Basis) (files : Option (Vec FileRow Global))
+    (cards : Option (Vec Span Global)) (hours : Option (Vec HoursRow Global)) (held : Option (Vec Span Global)) : Type 0 where
   pub own : rows Drivers ≡ driver_row r ∷ []
-  pub downloads : r.downloads ≡ counts.downloads
-  pub entries : r.entries ≡ counts.entries
+  pub columns : HasOwnColumns r
+  pub judged_by : HasBasis r basis
   pub files_read : AreFilesRead r.driver (rows Downloads) files
   pub cards_read : AreSpansRead r.driver (rows CardSpans) cards
   pub hours_read : AreHoursRead r.driver (rows EntryRows) hours
@@ -49,18 +51,18 @@ pub record IsReadDriver (rows : TableName → List Row) (r : DriverRow) (counts 
 
 -- ---- what typed rows have to be
 
--- the files are numbered, as many as are counted, and give these spans, which agree
-abbrev pub RightList : ℕ → List FileRow → List Span → Type 0
-RightList count files all = AreNumberedFrom 1 files × (length files ≡ count) × Give files all × Agrees all
+-- the files are numbered, as many as are counted, of the holder's card, and give these spans, which agree
+abbrev pub RightList : List ℕ → ℕ → List FileRow → List Span → Type 0
+RightList holder count files all = AreNumberedFrom 1 files × (length files ≡ count) × Give holder files all × Agrees all
 
-abbrev pub RightFiles : ℕ → Option (Vec FileRow Global) → List Span → Type 0
-RightFiles count None all = ⊥
-RightFiles count (Some files) all = RightList count files.items all
+abbrev pub RightFiles : List ℕ → ℕ → Option (Vec FileRow Global) → List Span → Type 0
+RightFiles holder count None all = ⊥
+RightFiles holder count (Some files) all = RightList holder count files.items all
 
 -- the spans keep what others give
-abbrev pub RightSpans : Option (Vec Wide Global) → List Span → Type 0
+abbrev pub RightSpans : Option (Vec Span Global) → List Span → Type 0
 RightSpans None all = ⊥
-RightSpans (Some spans) all = Keeps (wide_spans spans.items) (Gives all)
+RightSpans (Some spans) all = Keeps spans.items (Gives all)
 
 -- what downloads and entries give
 abbrev pub with_hours : Option (Vec HoursRow Global) → List Span → List Span
@@ -84,55 +86,55 @@ AreWhole count hours = (length hours ≡ count) × AreInOrder 1 hours
 
 -- ---- answers
 
-abbrev pub is_list : Option (Vec Wide Global) → Bool
+abbrev pub is_list : Option (Vec Span Global) → Bool
 is_list None = false
 is_list (Some list) = true
 
 -- what files give together, if that agrees
-abbrev pub AreAgreedFiles : List FileRow → Option (Vec Wide Global) → Type 0
-AreAgreedFiles files None = (all : List Span) → Give files all → ¬ (Agrees all)
-AreAgreedFiles files (Some given) = Give files (wide_spans given.items) × Agrees (wide_spans given.items)
+abbrev pub AreAgreedFiles : List ℕ → List FileRow → Option (Vec Span Global) → Type 0
+AreAgreedFiles holder files None = (all : List Span) → Give holder files all → ¬ (Agrees all)
+AreAgreedFiles holder files (Some given) = Give holder files given.items × Agrees given.items
 
 -- spans that agree, or none
-abbrev pub IsAgreed : List Wide → Option (Vec Wide Global) → Type 0
-IsAgreed spans None = ¬ (Agrees (wide_spans spans))
-IsAgreed spans (Some same) = Agrees (wide_spans spans) × (same.items ≡ spans)
+abbrev pub IsAgreed : List Span → Option (Vec Span Global) → Type 0
+IsAgreed spans None = ¬ (Agrees spans)
+IsAgreed spans (Some same) = Agrees spans × (same.items ≡ spans)
 
 -- what the files give, if they are right
-abbrev pub IsRightList : ℕ → List FileRow → Option (Vec Wide Global) → Type 0
-IsRightList count files None = (all : List Span) → ¬ (RightList count files all)
-IsRightList count files (Some given) = RightList count files (wide_spans given.items)
+abbrev pub IsRightList : List ℕ → ℕ → List FileRow → Option (Vec Span Global) → Type 0
+IsRightList holder count files None = (all : List Span) → ¬ (RightList holder count files all)
+IsRightList holder count files (Some given) = RightList holder count files given.items
 
-abbrev pub AreRightFiles : ℕ → Option (Vec FileRow Global) → Option (Vec Wide Global) → Type 0
-AreRightFiles count files None = (all : List Span) → ¬ (RightFiles count files all)
-AreRightFiles count files (Some given) = RightFiles count files (wide_spans given.items)
+abbrev pub AreRightFiles : List ℕ → ℕ → Option (Vec FileRow Global) → Option (Vec Span Global) → Type 0
+AreRightFiles holder count files None = (all : List Span) → ¬ (RightFiles holder count files all)
+AreRightFiles holder count files (Some given) = RightFiles holder count files given.items
 
 -- what downloads and entries give, if the entries are right
-abbrev pub IsRightHoursList : ℕ → List HoursRow → List Wide → Option (Vec Wide Global) → Type 0
-IsRightHoursList count hours given None = ¬ (RightHoursList count hours (wide_spans given))
+abbrev pub IsRightHoursList : ℕ → List HoursRow → List Span → Option (Vec Span Global) → Type 0
+IsRightHoursList count hours given None = ¬ (RightHoursList count hours given)
 IsRightHoursList count hours given (Some all) =
-    RightHoursList count hours (wide_spans given) × (wide_spans all.items ≡ wide_spans given ++ entered_hours hours)
+    RightHoursList count hours given × (all.items ≡ given ++ entered_hours hours)
 
-abbrev pub AreRightHours : ℕ → Option (Vec HoursRow Global) → List Wide → Option (Vec Wide Global) → Type 0
-AreRightHours count hours given None = ¬ (RightHours count hours (wide_spans given))
-AreRightHours count hours given (Some all) = RightHours count hours (wide_spans given)
-    × (wide_spans all.items ≡ with_hours hours (wide_spans given))
+abbrev pub AreRightHours : ℕ → Option (Vec HoursRow Global) → List Span → Option (Vec Span Global) → Type 0
+AreRightHours count hours given None = ¬ (RightHours count hours given)
+AreRightHours count hours given (Some all) = RightHours count hours given
+    × (all.items ≡ with_hours hours given)
 
 -- the first table whose rows aren't right
-abbrev pub IsFirstWrong : Counts → Option (Vec FileRow Global) → Option (Vec Wide Global) → Option (Vec HoursRow Global)
-    → Option (Vec Wide Global)
+abbrev pub IsFirstWrong : Basis → Option (Vec FileRow Global) → Option (Vec Span Global) → Option (Vec HoursRow Global)
+    → Option (Vec Span Global)
     → Option TableName → Type 0
-IsFirstWrong counts files cards hours held None =
-    (all : List Span) × RightFiles counts.downloads files all × RightSpans cards all × RightHours counts.entries hours all
+IsFirstWrong basis files cards hours held None =
+    (all : List Span) × RightFiles basis.holder basis.downloads files all × RightSpans cards all × RightHours basis.entries hours all
     × RightSpans held (with_hours hours all)
-IsFirstWrong counts files cards hours held (Some Drivers) = ⊥
-IsFirstWrong counts files cards hours held (Some Downloads) = (all : List Span) → ¬ (RightFiles counts.downloads files all)
-IsFirstWrong counts files cards hours held (Some CardSpans) =
-    (all : List Span) × RightFiles counts.downloads files all × (¬ (RightSpans cards all))
-IsFirstWrong counts files cards hours held (Some EntryRows) =
-    (all : List Span) × RightFiles counts.downloads files all × RightSpans cards all × (¬ (RightHours counts.entries hours all))
-IsFirstWrong counts files cards hours held (Some Held) =
-    (all : List Span) × RightFiles counts.downloads files all × RightSpans cards all × RightHours counts.entries hours all
+IsFirstWrong basis files cards hours held (Some Drivers) = ⊥
+IsFirstWrong basis files cards hours held (Some Downloads) = (all : List Span) → ¬ (RightFiles basis.holder basis.downloads files all)
+IsFirstWrong basis files cards hours held (Some CardSpans) =
+    (all : List Span) × RightFiles basis.holder basis.downloads files all × (¬ (RightSpans cards all))
+IsFirstWrong basis files cards hours held (Some EntryRows) =
+    (all : List Span) × RightFiles basis.holder basis.downloads files all × RightSpans cards all × (¬ (RightHours basis.entries hours all))
+IsFirstWrong basis files cards hours held (Some Held) =
+    (all : List Span) × RightFiles basis.holder basis.downloads files all × RightSpans cards all × RightHours basis.entries hours all
     × (¬ (RightSpans held (with_hours hours all)))
 
 -- the first table at which the driver's rows aren't sound, or none

@@ -1,5 +1,5 @@
 pub mod Check
-pub mod Wide
+pub mod Keeping
 pub mod Hours
 pub mod Files
 pub mod Member

@@ -10,7 +10,7 @@ use Rattle.tacho_state.specs.Content.{AreRead}
 use Rattle.tacho_tables.specs.declared.table.TableName.{TableName}
 use Rattle.tacho_tables.specs.declared.table.TableName.TheVariants.{Drivers, Downloads, CardSpans, EntryRows, Held}
 use Rattle.tacho_reading.specs.Standing.{driver_columns, rows_of_downloads, rows_of_entries, span_row}
-use Rattle.tacho_check.specs.Check.{place}
+use Rattle.tacho_check.specs.Check.{place, IsWithinUpTo}
 
 -- a driver of a state, and the spans of their rows in `card_spans` and in `held`
 pub record Member : Type 0 where
@@ -64,6 +64,7 @@ pub record HasMember (rows : TableName → List Row) (n : ℤ) (k : TableName) :
   pub member : Member
   pub whole : IsWhole member
   pub number : n ≡ pos member.driver.number
+  pub within : IsWithinUpTo k member.driver
   pub same : (j : TableName) → place j ≤ place k → IsPermutation (member_rows j member) (rows j)
 
 -- there are no rows up to a table

@@ -1,39 +1,45 @@
 -- Private to tacho_check: A driver's row in `drivers`, as it is read.
-use Rattle.std.specs.Prelude.{◌≡◌, ◌≢◌, ℕ, pos, List, [], ◌∷◌, length, Option, None, Some}
-use Rattle.sqlite.specs.declared.types.Value.TheVariants.{Int}
-use Rattle.sqlite.specs.Order.{Row, column}
+use Rattle.std.specs.Prelude.{◌≡◌, ◌≢◌, List, [], ◌∷◌, Option, None, Some}
+use Rattle.sqlite.specs.Order.{Row}
+use Rattle.tacho_state.specs.Registration.{Registration}
+use Rattle.tacho_state.specs.Within.{AreColumns}
+use Rattle.tacho_tables.specs.Ask.{driver_values}
 use Rattle.tacho_tables.specs.Rows.{DriverRow, driver_row}
-use Rattle.tacho_check.specs.declared.judgement.Counts.{Counts}
-use Rattle.tacho_check.specs.declared.registered.DriverParts.{DriverParts}
+use Rattle.tacho_check.specs.declared.registered.Basis.{Basis}
 use Rattle.tacho_check.specs.declared.registered.Registered.{Registered}
-use Rattle.tacho_check.specs.declared.registered.Registered.TheVariants.{No, Unfit, Counted}
+use Rattle.tacho_check.specs.declared.registered.Registered.TheVariants.{No, Unfit, Fit}
 
--- the row that is shown for these numbers
-abbrev pub four_numbers : ℕ → ℕ → ℕ → ℕ → Row
-four_numbers driver base downloads entries = Int (pos driver) ∷ Int (pos base) ∷ Int (pos downloads) ∷ Int (pos entries) ∷ []
+-- the registration of a row
+abbrev pub registration_in : DriverRow → Registration
+registration_in r = record { number = r.driver; holder = r.holder; key = r.secret; base = r.base; name = r.name }
 
--- the numbers of a row
-pub record AreDriverParts (row : Row) (p : DriverParts) : Type 0 where
-  pub four : length row ≡ 4
-  pub driver : column row 0 ≡ Int p.driver
-  pub base : column row 1 ≡ Int p.base
-  pub downloads : column row 2 ≡ Int p.downloads
-  pub entries : column row 3 ≡ Int p.entries
+-- its columns are within their limits
+abbrev pub HasOwnColumns : DriverRow → Type 0
+HasOwnColumns r = AreColumns (registration_in r) r.downloads r.entries
 
--- what a row counts, or none
-abbrev pub AreCountsOf : Row → Option Counts → Type 0
-AreCountsOf row None = (driver base downloads entries : ℕ) → row ≢ four_numbers driver base downloads entries
-AreCountsOf row (Some counts) = (driver : ℕ) × (base : ℕ) × (row ≡ four_numbers driver base counts.downloads counts.entries)
+-- what the driver's other rows are judged by is this
+pub record HasBasis (r : DriverRow) (b : Basis) : Type 0 where
+  pub holder : r.holder ≡ b.holder
+  pub downloads : r.downloads ≡ b.downloads
+  pub entries : r.entries ≡ b.entries
 
--- what a driver's rows count: there is none, there are others than one of a state, or one
+-- what is shown of a driver's row
+abbrev pub driver_shown : DriverRow → Row
+driver_shown r = driver_values (driver_row r)
+
+-- a row that shows a driver within their limits, or one that shows none
+abbrev pub IsBasisOf : Row → Option Basis → Type 0
+IsBasisOf row None = (r : DriverRow) → HasOwnColumns r → row ≢ driver_shown r
+IsBasisOf row (Some b) = (r : DriverRow) × HasOwnColumns r × HasBasis r b × (row ≡ driver_shown r)
+
+-- what a driver's rows show: there is none, there are others than one of a driver within their limits, or one
 abbrev pub IsShownDriver : List Row → Registered → Type 0
 IsShownDriver rows No = rows ≡ []
-IsShownDriver rows Unfit = (rows ≢ []) × ((driver base downloads entries : ℕ) → rows ≢ four_numbers driver base downloads entries ∷ [])
-IsShownDriver rows (Counted counts) = (driver : ℕ) × (base : ℕ) × (rows ≡ four_numbers driver base counts.downloads counts.entries ∷ [])
+IsShownDriver rows Unfit = (rows ≢ []) × ((r : DriverRow) → HasOwnColumns r → rows ≢ driver_shown r ∷ [])
+IsShownDriver rows (Fit b) = (r : DriverRow) × HasOwnColumns r × HasBasis r b × (rows ≡ driver_shown r ∷ [])
 
 -- likewise for the stored rows
 abbrev pub IsRegistered : List Row → Registered → Type 0
 IsRegistered rows No = rows ≡ []
-IsRegistered rows Unfit = (rows ≢ []) × ((r : DriverRow) → rows ≢ driver_row r ∷ [])
-IsRegistered rows (Counted counts) =
-    (r : DriverRow) × (rows ≡ driver_row r ∷ []) × (r.downloads ≡ counts.downloads) × (r.entries ≡ counts.entries)
+IsRegistered rows Unfit = (rows ≢ []) × ((r : DriverRow) → HasOwnColumns r → rows ≢ driver_row r ∷ [])
+IsRegistered rows (Fit b) = (r : DriverRow) × HasOwnColumns r × HasBasis r b × (rows ≡ driver_row r ∷ [])

@@ -1,60 +1,38 @@
 //! Typed rows of card files from the rows that readings show.
 
-ghost use Rattle.std.specs.Prelude.{◌≡◌, ◌∷◌, [], map, IfOk, IsPermutation};
-ghost use Rattle.sqlite.specs.declared.types.Value.TheVariants.{Int, Blob};
-ghost use Rattle.tacho_check.specs.Own.{AreFileParts, AreFilesInOrder};
+ghost use Rattle.std.specs.Prelude.{map, IfOk, IsPermutation};
+ghost use Rattle.tacho_check.specs.Own.{AreFilesInOrder};
 ghost use Rattle.tacho_check.specs.Parsed.{IsFileOf, AreFilesOf};
 ghost use Rattle.tacho_check.specs.Typed.{NeverFall};
 ghost use Rattle.tacho_check.specs.declared.files.FileRow.{FileRow as TheFile};
 
+use crate::cells::{bytes_at, number_at};
 use crate::files::FileRow;
-use crate::parsing::natural;
 use sqlite::Row;
 use std::alloc::Global;
 use tacho_tables::TableFault;
 
-/// The columns of a card file's row: its number and the number of its part, as they are stored, and its bytes.
-#[derive(Drop)]
-pub struct FileParts {
-    pub number: i64,
-    pub part: i64,
-    pub file: Vec<u8>,
-}
-
-/// Returns the columns of a row of number, part and file.
-fn parts_of(row: &Row) -> Result<FileParts, TableFault>
-    ensures { IfOk result (AreFileParts row.now) }
-{
-    if row.column_count() != 3 {
-        return Err(TableFault::Store);
-    }
-    Ok(FileParts {
-        number: row.get(0)?,
-        part: row.get(1)?,
-        file: row.get(2)?,
-    })
-}
-
-/// Returns the card file with these columns.
-#[tactic(auto, using(crate::proofs::FileParsedLemmas::no_number, crate::proofs::FileParsedLemmas::no_part, crate::proofs::FileParsedLemmas::is_file))]
-fn file_with(parts: FileParts) -> Option<FileRow>
-    ensures { IsFileOf (Int parts.number ∷ Int parts.part ∷ Blob parts.file.items ∷ []) result }
-{
-    let number = natural(parts.number)?;
-    let part = natural(parts.part)?;
-    Some(FileRow {
-        number,
-        part,
-        file: parts.file,
-    })
-}
-
 /// Returns the card file of a row of number, part and file; none if no state has such a row.
-fn file_of(row: &Row) -> Result<Option<FileRow>, TableFault>
+#[tactic(auto, using(crate::proofs::FileParsedLemmas::other_length, crate::proofs::FileParsedLemmas::no_number, crate::proofs::FileParsedLemmas::no_part, crate::proofs::FileParsedLemmas::no_file))]
+fn file_of(alloc: Global, row: &Row) -> Result<Option<FileRow>, TableFault>
     ensures { IfOk result (IsFileOf row.now) }
 {
-    let parts = parts_of(row)?;
-    Ok(file_with(parts))
+    if row.column_count() != 3 {
+        return Ok(None);
+    }
+    let Some(number) = number_at(row, 0) else {
+        return Ok(None);
+    };
+    let Some(part) = number_at(row, 1) else {
+        return Ok(None);
+    };
+    let Some(bytes) = bytes_at(row, 2) else {
+        return Ok(None);
+    };
+    let Ok(file) = Vec::from_slice(alloc, bytes) else {
+        return Err(TableFault::Memory);
+    };
+    Ok(Some(FileRow { number, part, file }))
 }
 
 /// Returns the card files of rows of number, part and file; none if no state has one of the rows.
@@ -63,7 +41,7 @@ fn files_of(alloc: Global, rows: &[Row]) -> Result<Option<Vec<FileRow>>, TableFa
 {
     let mut files = Vec::new(alloc);
     for row in rows {
-        let found = file_of(row)?;
+        let found = file_of(alloc, row)?;
         match found {
             None => return Ok(None),
             Some(file) => files.push(file)?,

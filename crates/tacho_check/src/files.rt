@@ -1,13 +1,11 @@
 //! A driver's stored card files, which are read again.
 
 ghost use Rattle.std.specs.Prelude.{◌≡◌, ◌≢◌, ◌↔◌, ◌++◌, None, IfOk, OnOk, IsTrue, IfSome, IsNone};
-ghost use Rattle.tacho_check.specs.Files.{IsContentOf, IsReadingOf, IsGivenBy, AreNumberedFrom};
-ghost use Rattle.tacho_check.specs.Wide.{wide_span, wide_spans};
+ghost use Rattle.tacho_check.specs.Files.{IsOwnContent, IsContentOf, IsReadingOf, IsGivenBy, AreNumberedFrom};
 
-use crate::wide::Wide;
 use std::alloc::{AllocError, Global};
 use tacho_card::Part;
-use tacho_state::{StoreFault, content_of, part_of};
+use tacho_state::{CardContent, StoreFault, content_of, part_of};
 use tacho_time::Span;
 
 /// A stored card file: its number among the driver's downloads, the number of the part that was read, and its bytes.
@@ -28,44 +26,48 @@ fn refused(fault: &StoreFault) -> Result<Option<Vec<Span>>, AllocError>
     }
 }
 
-/// Returns what a card file gives for a part; none if the file has a fault.
-#[tactic(auto, using(crate::proofs::FileLemmas::faulty_tells))]
-fn content(alloc: Global, part: Part, file: &[u8]) -> Result<Option<Vec<Span>>, AllocError>
-    ensures { IfOk result (IsContentOf part file.now) }
+/// Returns the spans of a card file, if it is of this holder's card.
+fn own_spans(holder: &[u8], content: CardContent) -> Option<Vec<Span>>
+    ensures { IsOwnContent holder.now content result }
+{
+    if content.holder.as_slice() == holder {
+        Some(content.spans)
+    } else {
+        None
+    }
+}
+
+/// Returns what a holder's card file gives for a part; none if the file has a fault, or is of another holder.
+fn content(
+    alloc: Global,
+    holder: &[u8],
+    part: Part,
+    file: &[u8],
+) -> Result<Option<Vec<Span>>, AllocError>
+    ensures { IfOk result (IsContentOf holder.now part file.now) }
 {
     match content_of(alloc, part, file) {
-        Ok(content) => Ok(Some(content.spans)),
+        Ok(content) => Ok(own_spans(holder, content)),
         Err(fault) => refused(&fault),
     }
 }
 
-/// Reads a stored card file again; none if no archive keeps such a file.
-fn reading(alloc: Global, row: &FileRow) -> Result<Option<Vec<Span>>, AllocError>
-    ensures { IfOk result (IsReadingOf row.now) }
+/// Reads a stored card file of a holder again; none if no archive keeps such a file.
+fn reading(alloc: Global, holder: &[u8], row: &FileRow) -> Result<Option<Vec<Span>>, AllocError>
+    ensures { IfOk result (IsReadingOf holder.now row.now) }
 {
     let Some(part) = part_of(row.part) else {
         return Ok(None);
     };
-    content(alloc, part, &row.file)
-}
-
-/// Returns a span with wide numbers.
-fn wide_of(span: &Span) -> Wide
-    ensures { wide_span result ≡ span.now }
-{
-    Wide {
-        start: u64::from(span.start.number()),
-        past: u64::from(span.past.number()),
-        mark: span.mark,
-    }
+    content(alloc, holder, part, &row.file)
 }
 
 /// Appends spans.
-fn append(given: &mut Vec<Wide>, spans: &[Span]) -> Result<(), AllocError>
-    ensures { OnOk result (wide_spans given.new.items ≡ wide_spans given.old.items ++ spans.now) }
+fn append(given: &mut Vec<Span>, spans: &[Span]) -> Result<(), AllocError>
+    ensures { OnOk result (given.new.items ≡ given.old.items ++ spans.now) }
 {
     for span in spans {
-        given.push(wide_of(span))?;
+        given.push(*span)?;
     }
     Ok(())
 }
@@ -84,14 +86,18 @@ pub fn are_numbered(rows: &[FileRow]) -> bool
     true
 }
 
-/// Returns what stored card files give together, one after the other; none if no archive keeps one of them.
+/// Returns what stored card files of a holder give together, one after the other; none if no archive keeps one of them.
 #[tactic(auto, using(crate::proofs::FileLemmas::begins))]
-pub fn given_by(alloc: Global, rows: &[FileRow]) -> Result<Option<Vec<Wide>>, AllocError>
-    ensures { IfOk result (IsGivenBy rows.now) }
+pub fn given_by(
+    alloc: Global,
+    holder: &[u8],
+    rows: &[FileRow],
+) -> Result<Option<Vec<Span>>, AllocError>
+    ensures { IfOk result (IsGivenBy holder.now rows.now) }
 {
     let mut given = Vec::new(alloc);
     for row in rows {
-        let found = reading(alloc, row)?;
+        let found = reading(alloc, holder, row)?;
         match found {
             None => return Ok(None),
             Some(spans) => append(&mut given, &spans)?,

@@ -1,78 +1,76 @@
-//! Typed rows of entries from the rows that readings show.
+//! The hours of entries from the rows that readings show.
 
-ghost use Rattle.std.specs.Prelude.{◌≡◌, ◌∷◌, [], map, IfOk, IsPermutation};
-ghost use Rattle.sqlite.specs.declared.types.Value.TheVariants.{Int};
-ghost use Rattle.tacho_check.specs.Own.{AreHourParts, AreHoursInOrder};
-ghost use Rattle.tacho_check.specs.Parsed.{AreHoursOfRow, AreHoursOf};
+ghost use Rattle.std.specs.Prelude.{◌↔◌, map, IfOk, IsPermutation, IsTrue};
+ghost use Rattle.tacho_check.specs.Own.{AreHoursInOrder};
+ghost use Rattle.tacho_check.specs.Parsed.{AreHours, AreHoursOfRow, AreHoursOf};
 ghost use Rattle.tacho_check.specs.Typed.{NeverFall};
 ghost use Rattle.tacho_check.specs.declared.hours.HoursRow.{HoursRow as TheHours};
 
+use crate::cells::{minute_at, number_at, text_at};
 use crate::hours::HoursRow;
-use crate::parsing::natural;
 use sqlite::Row;
 use std::alloc::Global;
+use tacho_state::{activity_of, is_name, is_note};
 use tacho_tables::TableFault;
+use tacho_time::{FIRST_DAY, LAST_DAY, Minute};
 
-/// The numbers of an entry's row, as they are stored.
-#[derive(Clone, Copy)]
-pub struct HourParts {
-    pub number: i64,
-    pub start: i64,
-    pub past: i64,
-    pub mark: i64,
-    pub withdrawn: i64,
+/// True if an entry can have these minutes: they lie within the years that are read, and are at least one and at most 366 days.
+fn are_hours(start: Minute, past: Minute) -> bool
+    ensures { IsTrue result ↔ AreHours start past }
+{
+    let (start, past) = (start.number(), past.number());
+    start >= 1_440 * FIRST_DAY
+        && start < past
+        && past - start <= 527_040
+        && past <= 1_440 * (LAST_DAY + 1)
 }
 
-/// Returns the numbers of a row of number, start, past, mark and withdrawn.
-fn parts_of(row: &Row) -> Result<HourParts, TableFault>
-    ensures { IfOk result (AreHourParts row.now) }
+/// Returns the hours of a row of number, start, past, mark, withdrawn, author and note; none if no entry within its limits has such a row.
+#[tactic(auto, using(crate::proofs::HourParsedLemmas::other_length, crate::proofs::HourParsedLemmas::no_number, crate::proofs::HourParsedLemmas::no_start, crate::proofs::HourParsedLemmas::no_past, crate::proofs::HourParsedLemmas::no_mark, crate::proofs::HourParsedLemmas::no_withdrawn, crate::proofs::HourParsedLemmas::no_author, crate::proofs::HourParsedLemmas::no_note, crate::proofs::HourParsedLemmas::bad_hours, crate::proofs::HourParsedLemmas::bad_mark, crate::proofs::HourParsedLemmas::bad_withdrawn, crate::proofs::HourParsedLemmas::bad_author, crate::proofs::HourParsedLemmas::bad_note))]
+fn hours_of_row(row: &Row) -> Option<HoursRow>
+    ensures { AreHoursOfRow row.now result }
 {
-    if row.column_count() != 5 {
-        return Err(TableFault::Store);
+    if row.column_count() != 7 {
+        return None;
     }
-    Ok(HourParts {
-        number: row.get(0)?,
-        start: row.get(1)?,
-        past: row.get(2)?,
-        mark: row.get(3)?,
-        withdrawn: row.get(4)?,
-    })
-}
-
-/// Returns the hours with these numbers.
-#[tactic(auto, using(crate::proofs::HourParsedLemmas::no_number, crate::proofs::HourParsedLemmas::no_start, crate::proofs::HourParsedLemmas::no_past, crate::proofs::HourParsedLemmas::no_mark, crate::proofs::HourParsedLemmas::no_withdrawn, crate::proofs::HourParsedLemmas::are_hours))]
-fn hours_with(parts: HourParts) -> Option<HoursRow>
-    ensures { AreHoursOfRow (Int parts.number ∷ Int parts.start ∷ Int parts.past ∷ Int parts.mark ∷ Int parts.withdrawn ∷ []) result }
-{
-    let number = natural(parts.number)?;
-    let start = natural(parts.start)?;
-    let past = natural(parts.past)?;
-    let mark = natural(parts.mark)?;
-    let withdrawn = natural(parts.withdrawn)?;
+    let number = number_at(row, 0)?;
+    let start = minute_at(row, 1)?;
+    let past = minute_at(row, 2)?;
+    let mark = number_at(row, 3)?;
+    let withdrawn = number_at(row, 4)?;
+    let author = text_at(row, 5)?;
+    let note = text_at(row, 6)?;
+    if !are_hours(start, past) {
+        return None;
+    }
+    if mark >= 4 {
+        return None;
+    }
+    if withdrawn >= 2 {
+        return None;
+    }
+    if !is_name(author) {
+        return None;
+    }
+    if !is_note(note) {
+        return None;
+    }
     Some(HoursRow {
         number,
         start,
         past,
-        mark,
-        withdrawn,
+        activity: activity_of(mark),
+        withdrawn: withdrawn != 0,
     })
 }
 
-/// Returns the hours of a row of number, start, past, mark and withdrawn; none if no state has such a row.
-fn hours_of_row(row: &Row) -> Result<Option<HoursRow>, TableFault>
-    ensures { IfOk result (AreHoursOfRow row.now) }
-{
-    let parts = parts_of(row)?;
-    Ok(hours_with(parts))
-}
-
-/// Returns the hours of rows of number, start, past, mark and withdrawn; none if no state has one of the rows.
+/// Returns the hours of rows; none if one of the rows has none.
 fn hours_of_rows(alloc: Global, rows: &[Row]) -> Result<Option<Vec<HoursRow>>, TableFault>
     ensures { IfOk result (AreHoursOf rows.now) }
 {
     let mut hours = Vec::new(alloc);
     for row in rows {
-        let found = hours_of_row(row)?;
+        let found = hours_of_row(row);
         match found {
             None => return Ok(None),
             Some(one) => hours.push(one)?,
@@ -91,8 +89,8 @@ fn in_order(hours: Vec<HoursRow>) -> Vec<HoursRow>
     sorted
 }
 
-/// Returns the hours of rows of number, start, past, mark and withdrawn, sorted by their numbers; none if no state has one of the rows.
-#[tactic(auto, using(crate::proofs::HourParsedLemmas::unordered, crate::proofs::HourParsedLemmas::ordered))]
+/// Returns the hours of rows, sorted by their numbers; none if one of the rows has none.
+#[tactic(auto, using(crate::proofs::HourParsedLemmas::unordered))]
 pub fn hours_in_order(alloc: Global, rows: &[Row]) -> Result<Option<Vec<HoursRow>>, TableFault>
     ensures { IfOk result (AreHoursInOrder rows.now) }
 {

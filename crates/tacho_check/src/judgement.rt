@@ -7,23 +7,17 @@ ghost use Rattle.tacho_tables.specs.declared.table.TableName.{TableName as Name}
 ghost use Rattle.tacho_check.specs.Fits.{Agrees};
 ghost use Rattle.tacho_check.specs.Hours.{entered_hours};
 ghost use Rattle.tacho_check.specs.Judged.{RightSpans, AreCounted, AreWhole, is_list, IsAgreed, AreAgreedFiles, IsRightList, AreRightFiles, IsRightHoursList, AreRightHours, IsFirstWrong, IsReadDriver, IsJudged, HasRows, first_present};
-ghost use Rattle.tacho_check.specs.Wide.{wide_spans};
 
 use crate::files::{FileRow, are_numbered, given_by};
 use crate::hours::{HoursRow, are_in_order, entered};
-use crate::wide::{Wide, canonical, keeps};
+use crate::keeping::{canonical, keeps};
+use crate::registered::Basis;
 use std::alloc::{AllocError, Global};
 use tacho_tables::TableName;
-
-/// What a driver's row in `drivers` counts.
-#[derive(Clone, Copy)]
-pub struct Counts {
-    pub downloads: u64,
-    pub entries: u64,
-}
+use tacho_time::Span;
 
 /// Returns true if there is a list.
-fn is_there(list: &Option<Vec<Wide>>) -> bool
+fn is_there(list: &Option<Vec<Span>>) -> bool
     ensures { result ≡ is_list list.now }
 {
     match list {
@@ -33,15 +27,15 @@ fn is_there(list: &Option<Vec<Wide>>) -> bool
 }
 
 /// Returns true if the spans give no minute two marks.
-fn agrees(alloc: Global, spans: &[Wide]) -> Result<bool, AllocError>
-    ensures { IfOk result (λ agreed. IsTrue agreed ↔ Agrees (wide_spans spans.now)) }
+fn agrees(alloc: Global, spans: &[Span]) -> Result<bool, AllocError>
+    ensures { IfOk result (λ agreed. IsTrue agreed ↔ Agrees spans.now) }
 {
     let list = canonical(alloc, spans)?;
     Ok(is_there(&list))
 }
 
 /// Returns the spans, if they give no minute two marks.
-fn agreed(alloc: Global, spans: Vec<Wide>) -> Result<Option<Vec<Wide>>, AllocError>
+fn agreed(alloc: Global, spans: Vec<Span>) -> Result<Option<Vec<Span>>, AllocError>
     ensures { IfOk result (IsAgreed spans.items) }
 {
     if agrees(alloc, &spans)? {
@@ -58,50 +52,56 @@ fn are_counted(count: u64, files: &[FileRow]) -> bool
     files.len() as u64 == count && are_numbered(files)
 }
 
-/// Returns what card files give together, if they give no minute two marks.
+/// Returns what card files of a holder give together, if they give no minute two marks.
 #[tactic(auto, using(crate::proofs::AgreedLemmas::unread_agree, crate::proofs::AgreedLemmas::given_agree))]
-fn agreed_files(alloc: Global, files: &[FileRow]) -> Result<Option<Vec<Wide>>, AllocError>
-    ensures { IfOk result (AreAgreedFiles files.now) }
+fn agreed_files(
+    alloc: Global,
+    holder: &[u8],
+    files: &[FileRow],
+) -> Result<Option<Vec<Span>>, AllocError>
+    ensures { IfOk result (AreAgreedFiles holder.now files.now) }
 {
-    let found = given_by(alloc, files)?;
+    let found = given_by(alloc, holder, files)?;
     match found {
         None => Ok(None),
         Some(given) => agreed(alloc, given),
     }
 }
 
-/// Returns what card files give together; none if they can't be the downloads of a driver with this count.
+/// Returns what card files give together; none if they can't be the downloads of a driver with this holder and count.
 fn counted_files(
     alloc: Global,
+    holder: &[u8],
     count: u64,
     files: &[FileRow],
-) -> Result<Option<Vec<Wide>>, AllocError>
-    ensures { IfOk result (IsRightList count files.now) }
+) -> Result<Option<Vec<Span>>, AllocError>
+    ensures { IfOk result (IsRightList holder.now count files.now) }
 {
     let counted = are_counted(count, files);
     if !counted {
         return Ok(None);
     }
-    agreed_files(alloc, files)
+    agreed_files(alloc, holder, files)
 }
 
-/// Returns what a driver's card files give together; none if they can't be the downloads of a driver with this count.
+/// Returns what a driver's card files give together; none if they can't be the downloads of a driver with this holder and count.
 fn downloaded(
     alloc: Global,
+    holder: &[u8],
     count: u64,
     files: &Option<Vec<FileRow>>,
-) -> Result<Option<Vec<Wide>>, AllocError>
-    ensures { IfOk result (AreRightFiles count files.now) }
+) -> Result<Option<Vec<Span>>, AllocError>
+    ensures { IfOk result (AreRightFiles holder.now count files.now) }
 {
     match files {
         None => Ok(None),
-        Some(files) => counted_files(alloc, count, files),
+        Some(files) => counted_files(alloc, holder, count, files),
     }
 }
 
 /// Returns true if stored spans keep exactly what others give.
-fn kept(alloc: Global, spans: &Option<Vec<Wide>>, given: &[Wide]) -> Result<bool, AllocError>
-    ensures { IfOk result (λ kept. IsTrue kept ↔ RightSpans spans.now (wide_spans given.now)) }
+fn kept(alloc: Global, spans: &Option<Vec<Span>>, given: &[Span]) -> Result<bool, AllocError>
+    ensures { IfOk result (λ kept. IsTrue kept ↔ RightSpans spans.now given.now) }
 {
     match spans {
         None => Ok(false),
@@ -110,7 +110,7 @@ fn kept(alloc: Global, spans: &Option<Vec<Wide>>, given: &[Wide]) -> Result<bool
 }
 
 /// Appends spans.
-fn append(all: &mut Vec<Wide>, spans: &[Wide]) -> Result<(), AllocError>
+fn append(all: &mut Vec<Span>, spans: &[Span]) -> Result<(), AllocError>
     ensures { OnOk result (all.new.items ≡ all.old.items ++ spans.now) }
 {
     for span in spans {
@@ -120,8 +120,8 @@ fn append(all: &mut Vec<Wide>, spans: &[Wide]) -> Result<(), AllocError>
 }
 
 /// Returns what downloads and entries give together.
-fn together(alloc: Global, given: &[Wide], hours: &[HoursRow]) -> Result<Vec<Wide>, AllocError>
-    ensures { IfOk result (λ all. wide_spans all.items ≡ wide_spans given.now ++ entered_hours hours.now) }
+fn together(alloc: Global, given: &[Span], hours: &[HoursRow]) -> Result<Vec<Span>, AllocError>
+    ensures { IfOk result (λ all. all.items ≡ given.now ++ entered_hours hours.now) }
 {
     let mut all = Vec::new(alloc);
     append(&mut all, given)?;
@@ -142,8 +142,8 @@ fn whole_hours(
     alloc: Global,
     count: u64,
     hours: &[HoursRow],
-    given: &[Wide],
-) -> Result<Option<Vec<Wide>>, AllocError>
+    given: &[Span],
+) -> Result<Option<Vec<Span>>, AllocError>
     ensures { IfOk result (IsRightHoursList count hours.now given.now) }
 {
     let whole = are_whole(count, hours);
@@ -159,8 +159,8 @@ fn held_by(
     alloc: Global,
     count: u64,
     hours: &Option<Vec<HoursRow>>,
-    given: &[Wide],
-) -> Result<Option<Vec<Wide>>, AllocError>
+    given: &[Span],
+) -> Result<Option<Vec<Span>>, AllocError>
     ensures { IfOk result (AreRightHours count hours.now given.now) }
 {
     match hours {
@@ -172,22 +172,22 @@ fn held_by(
 /// Returns the first table whose rows aren't right.
 fn first_wrong(
     alloc: Global,
-    counts: Counts,
+    basis: Basis,
     files: &Option<Vec<FileRow>>,
-    cards: &Option<Vec<Wide>>,
+    cards: &Option<Vec<Span>>,
     hours: &Option<Vec<HoursRow>>,
-    held: &Option<Vec<Wide>>,
+    held: &Option<Vec<Span>>,
 ) -> Result<Option<TableName>, AllocError>
-    ensures { IfOk result (IsFirstWrong counts files.now cards.now hours.now held.now) }
+    ensures { IfOk result (IsFirstWrong basis files.now cards.now hours.now held.now) }
 {
-    let downloads = downloaded(alloc, counts.downloads, files)?;
+    let downloads = downloaded(alloc, &basis.holder, basis.downloads, files)?;
     let Some(given) = downloads else {
         return Ok(Some(TableName::Downloads));
     };
     if !kept(alloc, cards, &given)? {
         return Ok(Some(TableName::CardSpans));
     }
-    let together = held_by(alloc, counts.entries, hours, &given)?;
+    let together = held_by(alloc, basis.entries, hours, &given)?;
     let Some(all) = together else {
         return Ok(Some(TableName::EntryRows));
     };
@@ -197,20 +197,20 @@ fn first_wrong(
     Ok(None)
 }
 
-/// Returns the first table at which the rows of a driver with a row in `drivers` aren't those of a state. `None` in place of a table's rows
+/// Returns the first table at which the rows of a driver with a row in `drivers` aren't those of a state within its limits. `None` in place of a table's rows
 /// says that they aren't rows of a state at all.
 pub fn judge(
     alloc: Global,
-    counts: Counts,
+    basis: Basis,
     files: &Option<Vec<FileRow>>,
-    cards: &Option<Vec<Wide>>,
+    cards: &Option<Vec<Span>>,
     hours: &Option<Vec<HoursRow>>,
-    held: &Option<Vec<Wide>>,
+    held: &Option<Vec<Span>>,
 ) -> Result<Option<TableName>, AllocError>
     ensures { IfOk result (λ found. (rows : Name → List Row) (r : DriverRow)
-        → IsReadDriver rows r counts files.now cards.now hours.now held.now → IsJudged rows (pos r.driver) found) }
+        → IsReadDriver rows r basis files.now cards.now hours.now held.now → IsJudged rows (pos r.driver) found) }
 {
-    first_wrong(alloc, counts, files, cards, hours, held)
+    first_wrong(alloc, basis, files, cards, hours, held)
 }
 
 /// Returns the first table after `drivers` that has rows.

@@ -7,18 +7,18 @@ ghost use Rattle.tacho_tables.specs.declared.table.TableName.{TableName as Name}
 ghost use Rattle.tacho_tables.specs.Ask.{Asks, own_in};
 ghost use Rattle.tacho_check.specs.Judged.{AreFilesRead, AreSpansRead, AreHoursRead, IsReadDriver, HasRows, IsJudged};
 ghost use Rattle.tacho_check.specs.Registered.{IsRegistered};
-ghost use Rattle.tacho_check.specs.declared.registered.Registered.TheVariants.{Counted};
+ghost use Rattle.tacho_check.specs.declared.registered.Registered.TheVariants.{Fit};
 
 use crate::files::FileRow;
 use crate::hours::HoursRow;
-use crate::judgement::{Counts, judge, judge_absent};
+use crate::judgement::{judge, judge_absent};
 use crate::own::{own_card_spans, own_files, own_held, own_hours};
-use crate::registered::{Registered, own_row};
-use crate::wide::Wide;
+use crate::registered::{Basis, Registered, own_row};
 use sqlite::{Alter, Transaction};
 use std::alloc::Global;
-use tacho_tables::asking::{card_span_rows, file_rows, held_rows, hour_rows};
+use tacho_tables::asking::{card_span_rows, entry_rows, file_rows, held_rows};
 use tacho_tables::{TableFault, TableName};
+use tacho_time::Span;
 
 /// A driver's card files and hours.
 #[derive(Drop)]
@@ -30,8 +30,8 @@ pub struct Sources {
 /// A driver's rows of `card_spans` and of `held`.
 #[derive(Drop)]
 pub struct Timelines {
-    pub cards: Option<Vec<Wide>>,
-    pub held: Option<Vec<Wide>>,
+    pub cards: Option<Vec<Span>>,
+    pub held: Option<Vec<Span>>,
 }
 
 /// Reads a driver's card files and hours.
@@ -67,16 +67,16 @@ fn own_timelines<S: Alter>(
 /// Judges a driver's rows that were read.
 fn judge_read(
     alloc: Global,
-    counts: Counts,
+    basis: Basis,
     given: &Sources,
     kept: &Timelines,
 ) -> Result<Option<TableName>, TableFault>
     ensures { IfOk result (λ found. (rows : Name → List Row) (r : DriverRow)
-        → IsReadDriver rows r counts given.now.files kept.now.cards given.now.hours kept.now.held → IsJudged rows (pos r.driver) found) }
+        → IsReadDriver rows r basis given.now.files kept.now.cards given.now.hours kept.now.held → IsJudged rows (pos r.driver) found) }
 {
     match judge(
         alloc,
-        counts,
+        basis,
         &given.files,
         &kept.cards,
         &given.hours,
@@ -87,20 +87,20 @@ fn judge_read(
     }
 }
 
-/// Judges the rows of a driver whose row in `drivers` has these counts.
-fn judge_counted<S: Alter>(
+/// Judges the rows of a driver whose row in `drivers` is fit.
+fn judge_fit<S: Alter>(
     alloc: Global,
     tx: &mut Transaction<'_, S>,
     driver: i64,
-    counts: Counts,
+    basis: Basis,
 ) -> Result<Option<TableName>, TableFault>
     ensures { Asks S.Store tx.old.conn tx.new.conn result (λ layout db found.
-        IsRegistered (own_in layout db driver TableName.Drivers) (Counted counts)
+        IsRegistered (own_in layout db driver TableName.Drivers) (Fit basis)
         → IsJudged (own_in layout db driver) driver found) }
 {
     let given = own_sources(alloc, tx, driver)?;
     let kept = own_timelines(alloc, tx, driver)?;
-    judge_read(alloc, counts, &given, &kept)
+    judge_read(alloc, basis, &given, &kept)
 }
 
 /// Reads whether a driver has downloads.
@@ -126,7 +126,7 @@ fn has_hours<S: Alter>(tx: &mut Transaction<'_, S>, driver: i64) -> Result<bool,
     ensures { Asks S.Store tx.old.conn tx.new.conn result
         (λ layout db found. HasRows (own_in layout db driver) TableName.EntryRows found) }
 {
-    let rows = hour_rows(tx, driver)?;
+    let rows = entry_rows(tx, driver)?;
     Ok(!rows.is_empty())
 }
 
@@ -181,7 +181,7 @@ fn judge_unregistered<S: Alter>(
     Ok(judge_absent(given.first, given.second, entered.first, entered.second))
 }
 
-/// Judges the stored rows of a driver: returns the first table at which no state has them, or none.
+/// Judges the stored rows of a driver: returns the first table at which no state within its limits has them, or none.
 pub fn judge_driver<S: Alter>(
     alloc: Global,
     tx: &mut Transaction<'_, S>,
@@ -193,6 +193,6 @@ pub fn judge_driver<S: Alter>(
     match row {
         Registered::No => judge_unregistered(tx, driver),
         Registered::Unfit => Ok(Some(TableName::Drivers)),
-        Registered::Counted(counts) => judge_counted(alloc, tx, driver, counts),
+        Registered::Fit(basis) => judge_fit(alloc, tx, driver, basis),
     }
 }

@@ -1,6 +1,8 @@
-//! Whether the archive's tables represent a state. If they don't, the first driver and the first table for which no state has such rows.
+//! Whether the archive's tables represent a state within its limits. If they don't, the first driver and the first table for which no such
+//! state has such rows.
 #![tactic(auto)]
 
+mod cells;
 pub mod checking;
 pub mod current;
 pub mod file_parsing;
@@ -9,6 +11,7 @@ pub mod hour_parsing;
 pub mod hours;
 pub mod judgement;
 pub mod judging;
+pub mod keeping;
 pub mod laws;
 pub mod numbers;
 pub mod own;
@@ -16,7 +19,6 @@ pub mod parsing;
 pub mod registered;
 mod table;
 mod text;
-pub mod wide;
 
 pub use checking::check;
 pub use table::Unsound;

@@ -9,18 +9,18 @@ use crate::files::FileRow;
 use crate::hour_parsing::hours_in_order;
 use crate::hours::HoursRow;
 use crate::parsing::spans_of;
-use crate::wide::Wide;
 use sqlite::{Alter, Transaction};
 use std::alloc::Global;
-use tacho_tables::asking::{card_span_rows, file_rows, held_rows, hour_rows};
+use tacho_tables::asking::{card_span_rows, entry_rows, file_rows, held_rows};
 use tacho_tables::{TableFault, TableName};
+use tacho_time::Span;
 
-/// Reads a driver's rows of `card_spans`; none if no state has one of them.
+/// Reads a driver's rows of `card_spans`; none if no state within its limits has one of them.
 pub fn own_card_spans<S: Alter>(
     alloc: Global,
     tx: &mut Transaction<'_, S>,
     driver: i64,
-) -> Result<Option<Vec<Wide>>, TableFault>
+) -> Result<Option<Vec<Span>>, TableFault>
     ensures { Asks S.Store tx.old.conn tx.new.conn result (λ layout db found. (n : ℕ) → driver ≡ pos n
         → AreSpansRead n (own_in layout db driver TableName.CardSpans) found) }
 {
@@ -28,12 +28,12 @@ pub fn own_card_spans<S: Alter>(
     spans_of(alloc, &rows)
 }
 
-/// Reads a driver's rows of `held`; none if no state has one of them.
+/// Reads a driver's rows of `held`; none if no state within its limits has one of them.
 pub fn own_held<S: Alter>(
     alloc: Global,
     tx: &mut Transaction<'_, S>,
     driver: i64,
-) -> Result<Option<Vec<Wide>>, TableFault>
+) -> Result<Option<Vec<Span>>, TableFault>
     ensures { Asks S.Store tx.old.conn tx.new.conn result (λ layout db found. (n : ℕ) → driver ≡ pos n
         → AreSpansRead n (own_in layout db driver TableName.Held) found) }
 {
@@ -54,7 +54,7 @@ pub fn own_files<S: Alter>(
     files_in_order(alloc, &rows)
 }
 
-/// Reads the hours of a driver's entries, sorted by their numbers; none if no state has one of their rows.
+/// Reads the hours of a driver's entries, sorted by their numbers; none if no state within its limits has one of their rows.
 pub fn own_hours<S: Alter>(
     alloc: Global,
     tx: &mut Transaction<'_, S>,
@@ -63,6 +63,6 @@ pub fn own_hours<S: Alter>(
     ensures { Asks S.Store tx.old.conn tx.new.conn result (λ layout db found. (n : ℕ) → driver ≡ pos n
         → AreHoursRead n (own_in layout db driver TableName.EntryRows) found) }
 {
-    let rows = hour_rows(tx, driver)?;
+    let rows = entry_rows(tx, driver)?;
     hours_in_order(alloc, &rows)
 }

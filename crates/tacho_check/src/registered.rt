@@ -1,99 +1,126 @@
 //! A driver's row in `drivers`.
 
-ghost use Rattle.std.specs.Prelude.{◌≡◌, ◌∷◌, [], IfOk};
-ghost use Rattle.sqlite.specs.declared.types.Value.TheVariants.{Int};
+ghost use Rattle.std.specs.Prelude.{◌≡◌, ◌↔◌, ◌≤◌, true, ◌∷◌, [], IfOk, IsTrue};
+ghost use Rattle.tacho_state.specs.Registration.{IsNumber, IsReadDay};
+ghost use Rattle.tacho_state.specs.Steps.{is_monday, most_records};
 ghost use Rattle.tacho_tables.specs.Ask.{Asks, own_in};
-ghost use Rattle.tacho_check.specs.Registered.{AreDriverParts, AreCountsOf, IsShownDriver, IsRegistered};
+ghost use Rattle.tacho_check.specs.Registered.{IsBasisOf, IsShownDriver, IsRegistered};
 
-use crate::judgement::Counts;
-use crate::parsing::natural;
+use crate::cells::{holder_at, number_at, text_at};
 use sqlite::{Alter, Row, Transaction};
+use tacho_state::{is_key, is_name};
 use tacho_tables::asking::driver_rows;
 use tacho_tables::{TableFault, TableName};
+use tacho_time::{FIRST_DAY, LAST_DAY};
 
-/// Whether a driver has a row in `drivers`, and what it counts. `Unfit` says that their rows there aren't those of a state.
+/// What of a driver's row in `drivers` their rows in the other tables are judged by: the holder of their card, and how many downloads and
+/// entries they have.
+#[derive(Clone, Copy)]
+pub struct Basis {
+    pub holder: [u8; 15],
+    pub downloads: u64,
+    pub entries: u64,
+}
+
+/// Whether a driver has a row in `drivers`, and what their other rows are judged by. `Unfit` says that their rows there aren't those of a
+/// state within its limits.
 #[derive(Clone, Copy)]
 pub enum Registered {
     No,
     Unfit,
-    Counted(Counts),
+    Fit(Basis),
 }
 
-/// The numbers of a driver's row, as they are stored.
-#[derive(Clone, Copy)]
-pub struct DriverParts {
-    pub driver: i64,
-    pub base: i64,
-    pub downloads: i64,
-    pub entries: i64,
-}
+/// How many downloads, and how many entries, a driver has at most.
+const MOST: u64 = 1_000_000;
 
-/// Returns the numbers of a row of driver, base, downloads and entries.
-fn parts_of(row: &Row) -> Result<DriverParts, TableFault>
-    ensures { IfOk result (AreDriverParts row.now) }
+/// True if a driver can have this number.
+fn is_number(number: u64) -> bool
+    ensures { IsTrue result ↔ IsNumber number }
 {
-    if row.column_count() != 4 {
-        return Err(TableFault::Store);
+    number >= 1 && number <= 999_999
+}
+
+/// True if a driver can be examined from the day with this number: it is a Monday of the years that are read.
+fn is_base(day: u64) -> bool
+    ensures { IsTrue result ↔ (IsReadDay day × (is_monday day ≡ true)) }
+{
+    let first = u64::from(FIRST_DAY);
+    let last = u64::from(LAST_DAY);
+    day >= first && day <= last && (day + 3) % 7 == 0
+}
+
+/// Returns what a row of driver, holder, secret, base, name, downloads and entries says of the driver's other rows; none if no driver within
+/// their limits has such a row.
+#[tactic(auto, using(crate::proofs::RegisteredLemmas::other_length, crate::proofs::RegisteredLemmas::no_number, crate::proofs::RegisteredLemmas::no_holder, crate::proofs::RegisteredLemmas::no_key, crate::proofs::RegisteredLemmas::no_base, crate::proofs::RegisteredLemmas::no_name, crate::proofs::RegisteredLemmas::no_downloads, crate::proofs::RegisteredLemmas::no_entries, crate::proofs::RegisteredLemmas::bad_number, crate::proofs::RegisteredLemmas::bad_key, crate::proofs::RegisteredLemmas::bad_base, crate::proofs::RegisteredLemmas::bad_name, crate::proofs::RegisteredLemmas::many_downloads, crate::proofs::RegisteredLemmas::many_entries))]
+fn basis_of(row: &Row) -> Option<Basis>
+    ensures { IsBasisOf row.now result }
+{
+    if row.column_count() != 7 {
+        return None;
     }
-    Ok(DriverParts {
-        driver: row.get(0)?,
-        base: row.get(1)?,
-        downloads: row.get(2)?,
-        entries: row.get(3)?,
+    let number = number_at(row, 0)?;
+    let holder = holder_at(row, 1)?;
+    let key = text_at(row, 2)?;
+    let base = number_at(row, 3)?;
+    let name = text_at(row, 4)?;
+    let downloads = number_at(row, 5)?;
+    let entries = number_at(row, 6)?;
+    if !is_number(number) {
+        return None;
+    }
+    if !is_key(key) {
+        return None;
+    }
+    if !is_base(base) {
+        return None;
+    }
+    if !is_name(name) {
+        return None;
+    }
+    if downloads > MOST {
+        return None;
+    }
+    if entries > MOST {
+        return None;
+    }
+    Some(Basis {
+        holder,
+        downloads,
+        entries,
     })
 }
 
-/// Returns what a row with these numbers counts.
-#[tactic(auto, using(crate::proofs::RegisteredLemmas::no_driver, crate::proofs::RegisteredLemmas::no_base, crate::proofs::RegisteredLemmas::no_downloads, crate::proofs::RegisteredLemmas::no_entries, crate::proofs::RegisteredLemmas::are_counts))]
-fn counts_with(parts: DriverParts) -> Option<Counts>
-    ensures { AreCountsOf (Int parts.driver ∷ Int parts.base ∷ Int parts.downloads ∷ Int parts.entries ∷ []) result }
+/// Returns what a driver's only row says.
+#[tactic(auto, using(crate::proofs::RegisteredLemmas::one_unfit, crate::proofs::RegisteredLemmas::one_fit))]
+fn registered_in(row: &Row) -> Registered
+    ensures { IsShownDriver (row.now ∷ []) result }
 {
-    let _driver = natural(parts.driver)?;
-    let _base = natural(parts.base)?;
-    let downloads = natural(parts.downloads)?;
-    let entries = natural(parts.entries)?;
-    Some(Counts { downloads, entries })
-}
-
-/// Returns what a row of driver, base, downloads and entries counts; none if no state has such a row.
-fn counts_of(row: &Row) -> Result<Option<Counts>, TableFault>
-    ensures { IfOk result (AreCountsOf row.now) }
-{
-    let parts = parts_of(row)?;
-    Ok(counts_with(parts))
-}
-
-/// Returns what a driver's only row counts.
-#[tactic(auto, using(crate::proofs::RegisteredLemmas::one_unfit, crate::proofs::RegisteredLemmas::one_counted))]
-fn registered_in(row: &Row) -> Result<Registered, TableFault>
-    ensures { IfOk result (IsShownDriver (row.now ∷ [])) }
-{
-    let found = counts_of(row)?;
-    match found {
-        None => Ok(Registered::Unfit),
-        Some(counts) => Ok(Registered::Counted(counts)),
+    match basis_of(row) {
+        None => Registered::Unfit,
+        Some(basis) => Registered::Fit(basis),
     }
 }
 
-/// Returns what a driver's rows of driver, base, downloads and entries count.
+/// Returns what a driver's rows of `drivers` say.
 #[tactic(auto, using(crate::proofs::RegisteredLemmas::more_unfit, crate::proofs::RegisteredLemmas::only_one))]
-fn registered_by(rows: &[Row]) -> Result<Registered, TableFault>
-    ensures { IfOk result (IsShownDriver rows.now) }
+fn registered_by(rows: &[Row]) -> Registered
+    ensures { IsShownDriver rows.now result }
 {
     let Some((row, others)) = rows.split_first() else {
-        return Ok(Registered::No);
+        return Registered::No;
     };
     if !others.is_empty() {
-        return Ok(Registered::Unfit);
+        return Registered::Unfit;
     }
     registered_in(row)
 }
 
-/// Reads whether a driver has a row in `drivers`, and what it counts.
+/// Reads whether a driver has a row in `drivers`, and what it says.
 pub fn own_row<S: Alter>(tx: &mut Transaction<'_, S>, driver: i64) -> Result<Registered, TableFault>
     ensures { Asks S.Store tx.old.conn tx.new.conn result
         (λ layout db found. IsRegistered (own_in layout db driver TableName.Drivers) found) }
 {
     let rows = driver_rows(tx, driver)?;
-    registered_by(&rows)
+    Ok(registered_by(&rows))
 }

@@ -21,10 +21,10 @@ use Rattle.sqlite_sql.specs.Term.{Term, col, eval_all}
 use Rattle.sqlite_rules.proofs.ListLemmas.{all_from, has_filtered}
 use Rattle.tacho_tables.specs.Schema.{Layout, Made, Carried, archive_schema, entry_tree}
 use Rattle.tacho_tables.specs.Readable.{is_number, is_own, own_rows, AreNumbered}
-use Rattle.tacho_tables.specs.Ask.{three_shown, five_shown, files_text, cards_text, hours_text, held_text, Show}
+use Rattle.tacho_tables.specs.Ask.{three_shown, seven_shown, files_text, cards_text, own_entries_text, held_text, Show}
 use Rattle.tacho_tables.proofs.Answers.{passes, listed, shows}
 use Rattle.tacho_tables.proofs.SpanLemmas.{and-true, none_given}
-use Rattle.tacho_tables.proofs.Statements.{IsReading, own, three_shown as three, span_names}
+use Rattle.tacho_tables.proofs.Statements.{IsReading, own, three_shown as three, seven_shown as seven, entry_names, span_names}
 use Rattle.tacho_tables.proofs.Stored.{map_same}
 use Rattle.tacho_tables.proofs.UniqueLemmas.{HasDriver}
 
@@ -79,14 +79,8 @@ module _ (schema : Schema) (text : List ℕ) (tree : ℕ) (shown : List Term) (n
 
 -- ---- the texts
 
-abbrev pub five : List Term
-five = col 1 2 ∷ col 1 3 ∷ col 1 4 ∷ col 1 5 ∷ col 1 6 ∷ []
-
 abbrev pub file_names : List (List ℕ)
 file_names = codes "number" ∷ codes "part" ∷ codes "file" ∷ []
-
-abbrev pub hour_names : List (List ℕ)
-hour_names = codes "number" ∷ codes "start" ∷ codes "past" ∷ codes "mark" ∷ codes "withdrawn" ∷ []
 
 pub files_is : (layout : Layout) → IsReading (archive_schema layout) files_text 4 own three [] file_names
 unfolding understood everything
@@ -98,10 +92,10 @@ unfolding understood everything
 cards_is Made = record { meant = refl; unlisted = refl; plain = (refl, refl) }
 cards_is Carried = record { meant = refl; unlisted = refl; plain = (refl, refl) }
 
-pub hours_is : (layout : Layout) → IsReading (archive_schema layout) hours_text (entry_tree layout) own five [] hour_names
+pub own_entries_are : (layout : Layout) → IsReading (archive_schema layout) own_entries_text (entry_tree layout) own seven [] entry_names
 unfolding understood everything
-hours_is Made = record { meant = refl; unlisted = refl; plain = (refl, refl) }
-hours_is Carried = record { meant = refl; unlisted = refl; plain = (refl, refl) }
+own_entries_are Made = record { meant = refl; unlisted = refl; plain = (refl, refl) }
+own_entries_are Carried = record { meant = refl; unlisted = refl; plain = (refl, refl) }
 
 pub held_is : (layout : Layout) → IsReading (archive_schema layout) held_text 10 own three [] span_names
 unfolding understood everything
@@ -112,5 +106,5 @@ held_is Carried = record { meant = refl; unlisted = refl; plain = (refl, refl) }
 pub three_parts : (params : Row) (v : Value) (w : Row) → eval_all three (params ∷ (v ∷ w) ∷ []) ≡ three_shown w
 three_parts params v w = refl
 
-pub five_parts : (params : Row) (v : Value) (w : Row) → eval_all five (params ∷ (v ∷ w) ∷ []) ≡ five_shown w
-five_parts params v w = refl
+pub seven_parts : (params : Row) (v : Value) (w : Row) → eval_all seven (params ∷ (v ∷ w) ∷ []) ≡ seven_shown w
+seven_parts params v w = refl

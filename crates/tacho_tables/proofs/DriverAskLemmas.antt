@@ -19,21 +19,21 @@ use Rattle.sqlite_sql.specs.Term.{Term, col}
 use Rattle.sqlite_rules.proofs.ListLemmas.{all_from}
 use Rattle.tacho_tables.specs.Schema.{Layout, Made, Carried, archive_schema}
 use Rattle.tacho_tables.specs.Readable.{is_number, is_own, own_rows, AreNumbered}
-use Rattle.tacho_tables.specs.Ask.{Show, driver_text, driver_shown, numbers_text, number_shown}
+use Rattle.tacho_tables.specs.Ask.{Show, driver_text, driver_values, numbers_text, number_shown}
 use Rattle.tacho_tables.proofs.Answers.{passes, listed, shows}
 use Rattle.tacho_tables.proofs.AskLemmas.{int_test}
 use Rattle.tacho_tables.proofs.ListingLemmas.{all_pass}
 use Rattle.tacho_tables.proofs.SpanLemmas.{and-true, none_given}
 use Rattle.tacho_tables.proofs.Statements.{IsReading, column_is}
 
-abbrev four_terms : List Term
-four_terms = col 1 0 ∷ col 1 4 ∷ col 1 6 ∷ col 1 7 ∷ []
+abbrev all_terms : List Term
+all_terms = col 1 0 ∷ col 1 2 ∷ col 1 3 ∷ col 1 4 ∷ col 1 5 ∷ col 1 6 ∷ col 1 7 ∷ []
 
-abbrev four_names : List (List ℕ)
-four_names = codes "driver" ∷ codes "base" ∷ codes "downloads" ∷ codes "entries" ∷ []
+abbrev all_names : List (List ℕ)
+all_names = codes "driver" ∷ codes "holder" ∷ codes "secret" ∷ codes "base" ∷ codes "name" ∷ codes "downloads" ∷ codes "entries" ∷ []
 
 -- the reading of a driver's row
-pub driver_is : (layout : Layout) → IsReading (archive_schema layout) driver_text 1 (column_is 0) four_terms [] four_names
+pub driver_is : (layout : Layout) → IsReading (archive_schema layout) driver_text 1 (column_is 0) all_terms [] all_names
 unfolding understood everything
 driver_is Made = record { meant = refl; unlisted = refl; plain = (refl, refl) }
 driver_is Carried = record { meant = refl; unlisted = refl; plain = (refl, refl) }
@@ -46,19 +46,19 @@ own_is n r id is =
 
 pub asked_driver : (layout : Layout) (n : ℤ) (old new : State) (rows : List Row) → old.now.schema ≡ archive_schema layout
     → Shown driver_text (Int n ∷ []) old new rows → AreNumbered (old.now.trees 1)
-    → Show driver_shown (own_rows n (old.now.trees 1)) rows
+    → Show driver_values (own_rows n (old.now.trees 1)) rows
 asked_driver layout n old new rows same h numbered =
     let db = old.now.trees in
     let params : Row = Int n ∷ [] in
     let it = driver_is layout in
     let got = reads_as driver_text params old new (archive_schema layout) same _ it.meant it.plain it.unlisted rows h in
-    let all = rw (none_given db 1) at (shows 1 (column_is 0) four_terms [] (overlay db []) params rows
-    (listed 1 (column_is 0) four_terms [] (overlay db []) params rows (got.answer Null))) in
+    let all = rw (none_given db 1) at (shows 1 (column_is 0) all_terms [] (overlay db []) params rows
+    (listed 1 (column_is 0) all_terms [] (overlay db []) params rows (got.answer Null))) in
     let passed : filter (passes (column_is 0) params) (db 1) ≡ own_rows n (db 1) =
     filter_same (passes (column_is 0) params) (is_own n) (db 1)
     (all_from (λ r. passes (column_is 0) params r ≡ is_own n r) (db 1)
     (λ r there. own_is n r (numbered.numbered r there).0 (numbered.numbered r there).1)) in
-    subst (λ (xs : List Row). IsPermutation (map driver_shown xs) rows) passed all
+    subst (λ (xs : List Row). IsPermutation (map driver_values xs) rows) passed all
 
 -- ---- the numbers of all drivers
 

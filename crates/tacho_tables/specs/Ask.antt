@@ -36,17 +36,17 @@ own_in layout db n j = own_rows n (stored_rows layout j db)
 
 -- ---- what is shown
 
--- what readings show of a row without its hidden number: of spans start, past and mark; of downloads number, part and file; of entries
--- number, start, past, mark and withdrawn
+-- what readings show of a row without its hidden number: of spans start, past and mark; of downloads number, part and file; of entries all
+-- but the driver
 abbrev pub three_shown : Row → Row
 three_shown w = column w 1 ∷ column w 2 ∷ column w 3 ∷ []
 
-abbrev pub five_shown : Row → Row
-five_shown w = column w 1 ∷ column w 2 ∷ column w 3 ∷ column w 4 ∷ column w 5 ∷ []
+abbrev pub seven_shown : Row → Row
+seven_shown w = column w 1 ∷ column w 2 ∷ column w 3 ∷ column w 4 ∷ column w 5 ∷ column w 6 ∷ column w 7 ∷ []
 
--- of a row of `drivers`, and of one of which only the number is asked
-abbrev pub driver_shown : Row → Row
-driver_shown w = column w 0 ∷ column w 4 ∷ column w 6 ∷ column w 7 ∷ []
+-- of a row of `drivers`: all columns, without the empty one that stands in the number's place; and of one of which only the number is asked
+abbrev pub driver_values : Row → Row
+driver_values w = column w 0 ∷ column w 2 ∷ column w 3 ∷ column w 4 ∷ column w 5 ∷ column w 6 ∷ column w 7 ∷ []
 
 abbrev pub number_shown : Row → Row
 number_shown w = column w 0 ∷ []
@@ -76,14 +76,14 @@ files_text = codes "SELECT number, part, file FROM downloads WHERE driver = ?1"
 abbrev pub cards_text : List ℕ
 cards_text = codes "SELECT start, past, mark FROM card_spans WHERE driver = ?1"
 
-abbrev pub hours_text : List ℕ
-hours_text = codes "SELECT number, start, past, mark, withdrawn FROM entry_rows WHERE driver = ?1"
+abbrev pub own_entries_text : List ℕ
+own_entries_text = codes "SELECT number, start, past, mark, withdrawn, author, note FROM entry_rows WHERE driver = ?1"
 
 abbrev pub held_text : List ℕ
 held_text = codes "SELECT start, past, mark FROM held WHERE driver = ?1"
 
 abbrev pub driver_text : List ℕ
-driver_text = codes "SELECT driver, base, downloads, entries FROM drivers WHERE driver = ?1"
+driver_text = codes "SELECT driver, holder, secret, base, name, downloads, entries FROM drivers WHERE driver = ?1"
 
 abbrev pub numbers_text : List ℕ
 numbers_text = codes "SELECT driver FROM drivers"

@@ -4,7 +4,7 @@
 ghost use Rattle.std.specs.Prelude.{map, IsTrue};
 ghost use Rattle.sqlite.specs.Held.{state};
 ghost use Rattle.tacho_tables.specs.Schema.{meta_rows as meta_tree, driver_rows as driver_tree, old_entry_tree};
-ghost use Rattle.tacho_tables.specs.Ask.{Asks, Learns, Show, AreFirst, own_in, three_shown, five_shown, driver_shown, number_shown, has_old_table, meta_shown, old_entry_shown};
+ghost use Rattle.tacho_tables.specs.Ask.{Asks, Learns, Show, AreFirst, own_in, three_shown, seven_shown, driver_values, number_shown, has_old_table, meta_shown, old_entry_shown};
 
 use crate::fault::TableFault;
 use crate::statement::read;
@@ -38,14 +38,17 @@ pub fn card_span_rows<S: Alter>(
     )
 }
 
-/// Reads number, start, past, mark and withdrawn of a driver's entries.
-pub fn hour_rows<S: Alter>(tx: &mut Transaction<'_, S>, driver: i64) -> Result<Vec<Row>, TableFault>
+/// Reads number, start, past, mark, withdrawn, author and note of a driver's entries.
+pub fn entry_rows<S: Alter>(
+    tx: &mut Transaction<'_, S>,
+    driver: i64,
+) -> Result<Vec<Row>, TableFault>
     ensures { Asks S.Store tx.old.conn tx.new.conn result
-        (λ layout db found. Show five_shown (own_in layout db driver TableName.EntryRows) found.items) }
+        (λ layout db found. Show seven_shown (own_in layout db driver TableName.EntryRows) found.items) }
 {
     read(
         tx,
-        "SELECT number, start, past, mark, withdrawn FROM entry_rows WHERE driver = ?1",
+        "SELECT number, start, past, mark, withdrawn, author, note FROM entry_rows WHERE driver = ?1",
         params![driver],
     )
 }
@@ -62,17 +65,17 @@ pub fn held_rows<S: Alter>(tx: &mut Transaction<'_, S>, driver: i64) -> Result<V
     )
 }
 
-/// Reads driver, base, downloads and entries of a driver's rows of `drivers`.
+/// Reads all columns of a driver's rows of `drivers`: driver, holder, secret, base, name, downloads and entries.
 pub fn driver_rows<S: Alter>(
     tx: &mut Transaction<'_, S>,
     driver: i64,
 ) -> Result<Vec<Row>, TableFault>
     ensures { Asks S.Store tx.old.conn tx.new.conn result
-        (λ layout db found. Show driver_shown (own_in layout db driver TableName.Drivers) found.items) }
+        (λ layout db found. Show driver_values (own_in layout db driver TableName.Drivers) found.items) }
 {
     read(
         tx,
-        "SELECT driver, base, downloads, entries FROM drivers WHERE driver = ?1",
+        "SELECT driver, holder, secret, base, name, downloads, entries FROM drivers WHERE driver = ?1",
         params![driver],
     )
 }

@@ -41,16 +41,18 @@ const TWO_DRIVERS: &[Step] = &[
     ),
 ];
 
-/// Changes of the tables after which they represent a state.
+/// Changes of the tables after which they represent a state within its limits.
 const SOUND: &[&str] = &[
-    "UPDATE drivers SET base = 0, name = 'Carla' WHERE driver = 17",
+    "UPDATE drivers SET base = 10959, name = 'Carla' WHERE driver = 17",
+    "UPDATE drivers SET base = 47478, secret = '12345678' WHERE driver = 18",
     // Rows that touch may have the same mark. Monday 00:00 is minute 28,491,840.
     "UPDATE card_spans SET past = 28492000 WHERE driver = 17 AND start = 28491840; \
      INSERT INTO card_spans (driver, start, past, mark) VALUES (17, 28492000, 28492320, 0)",
     "UPDATE held SET past = 28492000 WHERE driver = 18; \
      INSERT INTO held (driver, start, past, mark) VALUES (18, 28492000, 28492140, 0)",
-    // A withdrawn entry gives nothing, so its minutes may be any.
-    "UPDATE entry_rows SET start = 0, mark = 3 WHERE driver = 17 AND number = 2",
+    // A withdrawn entry gives nothing, so its minutes may be any within the limits.
+    "UPDATE entry_rows SET start = 15780960, past = 15780961, mark = 3 WHERE driver = 17 AND number = 2",
+    "UPDATE entry_rows SET start = 67847040, past = 68374080 WHERE driver = 17 AND number = 2",
     "UPDATE entry_rows SET author = 'x', note = 'y' WHERE driver = 17",
     // A file that gives a part of what another one gives.
     "UPDATE drivers SET downloads = 2 WHERE driver = 17; \
@@ -58,8 +60,115 @@ const SOUND: &[&str] = &[
      x'05200000110d443132333435363738393031323330300504000016000000000000001265e50f0000010000000011e019fe')",
 ];
 
-/// Changes of the tables, and the first driver and table after each whose rows no state has.
+/// Changes of the tables, and the first driver and table after each whose rows no state within its limits has.
 const UNSOUND: &[(&str, i64, TableName)] = &[
+    // A driver's own columns.
+    (
+        "INSERT INTO drivers (driver, holder, secret, base, name, downloads, entries) \
+         VALUES (0, x'0d4431323334353637383930313239', 'carl-key-1', 19786, 'Carl', 0, 0)",
+        0,
+        TableName::Drivers,
+    ),
+    (
+        "INSERT INTO drivers (driver, holder, secret, base, name, downloads, entries) \
+         VALUES (1000000, x'0d4431323334353637383930313239', 'carl-key-1', 19786, 'Carl', 0, 0)",
+        1_000_000,
+        TableName::Drivers,
+    ),
+    (
+        "UPDATE drivers SET holder = x'0d44313233343536373839303132' WHERE driver = 17",
+        17,
+        TableName::Drivers,
+    ),
+    (
+        "UPDATE drivers SET secret = 'short-1' WHERE driver = 17",
+        17,
+        TableName::Drivers,
+    ),
+    // A Tuesday, and Mondays before and after the years that are read.
+    (
+        "UPDATE drivers SET base = base + 1 WHERE driver = 18",
+        18,
+        TableName::Drivers,
+    ),
+    (
+        "UPDATE drivers SET base = 10952 WHERE driver = 18",
+        18,
+        TableName::Drivers,
+    ),
+    (
+        "UPDATE drivers SET base = 47485 WHERE driver = 18",
+        18,
+        TableName::Drivers,
+    ),
+    (
+        "UPDATE drivers SET name = '' WHERE driver = 17",
+        17,
+        TableName::Drivers,
+    ),
+    (
+        "UPDATE drivers SET name = 'Berg, Anna' WHERE driver = 17",
+        17,
+        TableName::Drivers,
+    ),
+    (
+        "UPDATE drivers SET name = CAST(x'416e6eff' AS TEXT) WHERE driver = 17",
+        17,
+        TableName::Drivers,
+    ),
+    (
+        "UPDATE drivers SET downloads = 1000001 WHERE driver = 17",
+        17,
+        TableName::Drivers,
+    ),
+    (
+        "UPDATE drivers SET downloads = 1000000 WHERE driver = 17",
+        17,
+        TableName::Downloads,
+    ),
+    (
+        "UPDATE drivers SET entries = 1000001 WHERE driver = 17",
+        17,
+        TableName::Drivers,
+    ),
+    // The card is of another holder.
+    (
+        "UPDATE drivers SET holder = x'0d4431323334353637383930313239' WHERE driver = 17",
+        17,
+        TableName::Downloads,
+    ),
+    // An entry's minutes, also of a withdrawn one.
+    (
+        "UPDATE entry_rows SET start = 15780959, past = 15780961 WHERE driver = 17 AND number = 2",
+        17,
+        TableName::EntryRows,
+    ),
+    (
+        "UPDATE entry_rows SET start = 68374079, past = 68374081 WHERE driver = 17 AND number = 2",
+        17,
+        TableName::EntryRows,
+    ),
+    (
+        "UPDATE entry_rows SET start = 28000000, past = 28527041 WHERE driver = 17 AND number = 2",
+        17,
+        TableName::EntryRows,
+    ),
+    // And its texts.
+    (
+        "UPDATE entry_rows SET author = '' WHERE driver = 17 AND number = 2",
+        17,
+        TableName::EntryRows,
+    ),
+    (
+        "UPDATE entry_rows SET note = 'a\"b' WHERE driver = 17 AND number = 2",
+        17,
+        TableName::EntryRows,
+    ),
+    (
+        "UPDATE entry_rows SET note = CAST(x'c3' AS TEXT) WHERE driver = 17 AND number = 2",
+        17,
+        TableName::EntryRows,
+    ),
     (
         "UPDATE drivers SET base = -1 WHERE driver = 18",
         18,

@@ -1,11 +1,15 @@
-use Rattle.std.proofs.Common.{rules, ◌≡◌, ◌∙◌, ℕ, suc, ◌+◌, ◌<◌, ◌≤◌, List, ◌∷◌, ◌++◌, append-nil, add-one, drop, drop_of_length-le, length, map, subst, sym, ap}
+use Rattle.std.proofs.Common.{rules, ◌≡◌, ◌∙◌, ℕ, ◌+◌, ◌<◌, ◌≤◌, List, [], ◌∷◌, ◌++◌, length, take, take_all, sym, ap, subst, arith}
+use Rattle.std.proofs.lemmas.Grind.{common_steps}
 use Rattle.std.specs.List.{slice_index_or}
-use Rattle.std.proofs.Math.Seq.{drop-cons}
 use Rattle.sqlite.specs.Order.{Row}
 use Rattle.sqlite_rules.proofs.ListLemmas.{has_at}
-use Rattle.tacho_check.specs.Parsed.{hours_shown, AreHoursOfRow}
-use Rattle.tacho_check.proofs.FileParsedLemmas.{one_shown}
+use Rattle.tacho_check.specs.Parsed.{AreHoursOfRow, AreEntriesOf}
+use Rattle.tacho_check.proofs.HourParsedLemmas.{one_more, no_entries}
 use Rattle.tacho_check.proofs.hour_parsing.hours_of_rows.Goals as goal
+
+pub loop-row-init : goal.loop-row-init
+loop-row-init c =
+    let none : [] ≡ c.new-hours.result.items = search rules in subst (AreEntriesOf []) none no_entries
 
 pub loop-row-preserved : goal.loop-row-preserved
 loop-row-preserved c =
@@ -14,10 +18,11 @@ loop-row-preserved c =
     let r : Row = c.row-item.result in
     let some : i < length rows = search rules in
     let at : slice_index_or rows i r ≡ r = search rules in
-    let cut : drop i rows ≡ r ∷ drop (i + 1) rows = rw add-one (drop-cons rows i r some ∙ ap (λ (x : Row). x ∷ drop (suc i) rows) at) in
-    let whole = ap (λ (left : List Row). map hours_shown c.loop-row.hours.items ++ left) (sym cut) ∙ c.loop-row.invariant in
-    one_shown hours_shown c.loop-row.hours.items c.push.new.self.items c.in-Some.one r (drop (i + 1) rows) rows whole
-    (subst (AreHoursOfRow r) c.in-Some.is c.in_ok-found.ensures) c.in_ok-push-in-Some.ensures.items
+    let cut : take (i + 1) rows ≡ take i rows ++ slice_index_or rows i r ∷ [] = grind (arith, common_steps) in
+    let whole : take (i + 1) rows ≡ take i rows ++ r ∷ [] = cut ∙ ap (λ (x : Row). take i rows ++ x ∷ []) at in
+    subst (λ (xs : List Row). AreEntriesOf xs c.push.new.self.items) (sym whole)
+    (subst (AreEntriesOf (take i rows ++ r ∷ [])) (sym c.in_ok-push-in-Some.ensures.items)
+    (one_more (take i rows) c.loop-row.hours.items r c.in-Some.one c.loop-row.invariant (subst (AreHoursOfRow r) c.in-Some.is c.hours_of_row-found.ensures)))
 
 pub returns-in-None : goal.returns-in-None
 returns-in-None c =
@@ -26,12 +31,10 @@ returns-in-None c =
     let r : Row = c.row-item.result in
     let some : i < length rows = search rules in
     let at : slice_index_or rows i r ≡ r = search rules in
-    (r, has_at rows i r some (sym at), subst (AreHoursOfRow r) c.in-None.is c.in_ok-found.ensures)
+    (r, has_at rows i r some (sym at), subst (AreHoursOfRow r) c.in-None.is c.hours_of_row-found.ensures)
 
 pub returns : goal.returns
 returns c =
     let rows : List Row = c.args.rows.now in
-    let i : ℕ = c.loop-row.row-index in
-    let past : length rows ≤ i = search rules in
-    let made : List Row = map hours_shown c.loop-row.hours.items in
-    sym (sym (append-nil made) ∙ ap (λ (left : List Row). made ++ left) (sym (drop_of_length-le rows past)) ∙ c.loop-row.invariant)
+    let past : length rows ≤ c.loop-row.row-index = search rules in
+    subst (λ (xs : List Row). AreEntriesOf xs c.loop-row.hours.items) (take_all c.loop-row.row-index rows past) c.loop-row.invariant

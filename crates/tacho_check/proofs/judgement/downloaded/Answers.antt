@@ -7,5 +7,5 @@ use Rattle.tacho_check.proofs.judgement.downloaded.Goals as goal
 
 pub returns-in-Some : goal.returns-in-Some
 returns-in-Some c = IfOk-weaker c.counted_files.result _ _
-    (λ found right. right_list c.args.count c.args.files.now c.in-Some.files c.in-Some.is found
-    (subst (λ (files : List FileRow). IsRightList c.args.count files found) c.deref.ensures.value right)) c.counted_files.ensures
+    (λ found right. right_list c.args.holder.now c.args.count c.args.files.now c.in-Some.files c.in-Some.is found
+    (subst (λ (files : List FileRow). IsRightList c.args.holder.now c.args.count files found) c.deref.ensures.value right)) c.counted_files.ensures

@@ -18,10 +18,10 @@ returns-in-Unfit g c = passes_on c.in_ok-row.row _ c.in_ok-row.ensures
     let it = subst (IsRegistered _) c.in-Unfit.is (rw (to_z-of_z c.ranges.driver) at p) in
     unfit_judged _ c.args.driver it.0 it.1)
 
-pub returns-in-Counted : goal.returns-in-Counted
-returns-in-Counted g c = tail_read c.in_ok-row.row c.in_ok-row.ensures c.judge_counted.result c.judge_counted.ensures
+pub returns-in-Fit : goal.returns-in-Fit
+returns-in-Fit g c = tail_read c.in_ok-row.row c.in_ok-row.ensures c.judge_fit.result c.judge_fit.ensures
     (λ layout db ready p found q. (rw (to_z-of_z c.ranges.driver) at q)
-    (subst (IsRegistered (own_in layout db c.args.driver Drivers)) c.in-Counted.is (rw (to_z-of_z c.ranges.driver) at p)))
+    (subst (IsRegistered (own_in layout db c.args.driver Drivers)) c.in-Fit.is (rw (to_z-of_z c.ranges.driver) at p)))
 
 pub returns-in_err-row : goal.returns-in_err-row
 returns-in_err-row g c = gives_up _ c.from_residual.result c.in_err-row.ensures c.from_residual.ensures.0

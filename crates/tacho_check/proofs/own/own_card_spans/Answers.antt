@@ -9,7 +9,8 @@ use Rattle.tacho_tables.proofs.UniqueLemmas.{card_spans_have}
 use Rattle.tacho_check.specs.Judged.{AreSpansRead}
 use Rattle.tacho_check.specs.Parsed.{AreSpansOf}
 use Rattle.tacho_check.proofs.ReadLemmas.{spans_are_read}
-use Rattle.tacho_check.proofs.OwnReadLemmas.{passes_on, gives_up, card_spans_types}
+use Rattle.tacho_check.proofs.OwnReadLemmas.{passes_on, gives_up}
+use Rattle.tacho_check.proofs.TypeLemmas.{card_spans_types}
 use Rattle.tacho_check.proofs.own.own_card_spans.Goals as goal
 
 pub returns : goal.returns

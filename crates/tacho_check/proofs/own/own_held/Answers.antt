@@ -9,7 +9,8 @@ use Rattle.tacho_tables.proofs.UniqueLemmas.{held_have}
 use Rattle.tacho_check.specs.Judged.{AreSpansRead}
 use Rattle.tacho_check.specs.Parsed.{AreSpansOf}
 use Rattle.tacho_check.proofs.ReadLemmas.{spans_are_read}
-use Rattle.tacho_check.proofs.OwnReadLemmas.{passes_on, gives_up, held_types}
+use Rattle.tacho_check.proofs.OwnReadLemmas.{passes_on, gives_up}
+use Rattle.tacho_check.proofs.TypeLemmas.{held_types}
 use Rattle.tacho_check.proofs.own.own_held.Goals as goal
 
 pub returns : goal.returns

@@ -3,10 +3,11 @@ use Rattle.std.proofs.lemmas.Result.{IfOk-weaker}
 use Rattle.sqlite.specs.Held.{state}
 use Rattle.tacho_tables.specs.Schema.{archive_schema, entry_tree}
 use Rattle.tacho_tables.proofs.CallLemmas.{plain_in}
-use Rattle.tacho_tables.specs.Ask.{hours_text, five_shown}
-use Rattle.tacho_tables.proofs.AskLemmas.{asked, five, hour_names, hours_is, five_parts}
+use Rattle.tacho_tables.specs.Ask.{own_entries_text, seven_shown}
+use Rattle.tacho_tables.proofs.AskLemmas.{asked, own_entries_are, seven_parts}
+use Rattle.tacho_tables.proofs.Statements.{entry_names, seven_shown as seven}
 use Rattle.tacho_tables.proofs.UniqueLemmas.{entries_have}
-use Rattle.tacho_tables.proofs.asking.hour_rows.Goals as goal
+use Rattle.tacho_tables.proofs.asking.entry_rows.Goals as goal
 
 pub returns : goal.returns
 returns g c =
@@ -17,13 +18,13 @@ returns g c =
     record {
       reads = record {
         stays = told.stays;
-        keeps = λ clean known. told.keeps clean (plain_in hours_text (λ layout. (hours_is layout).plain) _ known);
+        keeps = λ clean known. told.keeps clean (plain_in own_entries_text (λ layout. (own_entries_are layout).plain) _ known);
         live = told.live;
-        same = λ clean known. told.same clean (plain_in hours_text (λ layout. (hours_is layout).plain) _ known);
+        same = λ clean known. told.same clean (plain_in own_entries_text (λ layout. (own_entries_are layout).plain) _ known);
       };
       found = λ clean is it. IfOk-weaker c.read.result _ _
-          (λ rows shown. asked (archive_schema is.layout) hours_text (entry_tree is.layout) five hour_names
-          (hours_is is.layout) five_shown five_parts c.args.driver old new rows.items is.schema
+          (λ rows shown. asked (archive_schema is.layout) own_entries_text (entry_tree is.layout) seven entry_names
+          (own_entries_are is.layout) seven_shown seven_parts c.args.driver old new rows.items is.schema
           shown it.numbered.entries (entries_have is.layout old.now.trees it.sound))
           (rw (c.params-to_sql.ensures, to_z-of_z fits) at (told.shown clean));
     }
