@@ -15,6 +15,7 @@ mod DecisionLemmas
 mod AdditionLemmas
 mod EmptyLemmas
 mod OldLemmas
+mod MigratedLemmas
 mod OpeningLemmas
 mod FileLemmas
 mod WithdrawalLemmas

@@ -1,8 +1,11 @@
 -- Trusted: An archive of schema 1, whose entries have no author and no note, and what it becomes in schema 2.
 use Rattle.std.specs.Prelude.{ℕ, ◌+◌, Bool, List, [], ◌∷◌, codes, map, if◌then◌else◌}
+use Rattle.std.specs.List.{AllByRecursion}
 use Rattle.sqlite.specs.Tree.{Trees}
 use Rattle.tacho_time.specs.declared.span.Activity.{Activity}
+use Rattle.tacho_state.specs.Batch.{IsEntryLine}
 use Rattle.tacho_state.specs.State.{Download, Entry, Driver, State}
+use Rattle.tacho_state.specs.Within.{AreOwnFiles, HasColumns, hours_of}
 use Rattle.tacho_tables.specs.Rows.{OldEntryRow}
 use Rattle.tacho_tables.specs.Tables.{OldTables, HasOldTables, carry_over}
 use Rattle.tacho_reading.specs.Standing.{TablesRepresent}
@@ -47,6 +50,14 @@ driver_by_office d = record {
 
 abbrev pub with_office : OldState → State
 with_office s = map driver_by_office s
+
+-- ---- limits
+
+-- a driver of schema 1 within their limits: those of schema 2, without the limits of authors and notes
+pub record IsOldWithinLimits (d : OldDriver) : Type 0 where
+  pub columns : HasColumns (driver_by_office d)
+  pub files : AreOwnFiles (driver_by_office d)
+  pub entries : AllByRecursion (λ (e : OldEntry). IsEntryLine (hours_of (entry_by_office e))) d.entries
 
 -- ---- what the tables of schema 1 represent
 

@@ -19,7 +19,8 @@ ghost use Rattle.tacho_tables.specs.Tables.{Tables, OldTables, carry_over, no_ro
 ghost use Rattle.tacho_tables.specs.Rows.{OldEntryRow};
 ghost use Rattle.tacho_reading.specs.Kept.{IsOfOne, LeavesOneOf};
 ghost use Rattle.tacho_reading.specs.Standing.{Represents, TablesRepresent, spans_of, driver_columns, stored_span, IsReadNear, IsKeptNear};
-ghost use Rattle.tacho_store.specs.Old.{OldDriver, OldState, old_entry_rows, with_office};
+ghost use Rattle.tacho_state.specs.Within.{AreWithinLimits};
+ghost use Rattle.tacho_store.specs.Old.{OldDriver, OldState, IsOldWithinLimits, old_entry_rows, with_office};
 ghost use Rattle.tacho_store.specs.Opening.{IsAdopted};
 ghost use Rattle.tacho_store.specs.After.{with_driver, with_rebased, with_rekeyed, with_renamed, with_imported, with_entered, with_renewed};
 
@@ -122,6 +123,12 @@ pub fn imported_tables_stand()
         → IsCanonicalOf (Gives (near start past (spans_of n t.held))) line → AreGains line content.spans gains
         → TablesRepresent (with_imported n (1 + length d.downloads) (part_number part) file card_gains gains t)
         (put (with_download (part_number part) file content.spans d) s) }
+{}
+
+/// The state of a migrated archive is within its limits if that of the old one was: the office is the author of its entries, and they have no
+/// note.
+pub fn a_migrated_state_is_within_limits()
+    ensures { (s : OldState) → AllByRecursion IsOldWithinLimits s → AreWithinLimits (with_office s) }
 {}
 
 /// If tables of schema 1 represent a state, the rows of a driver's entries are those of the driver's entries in the state, by number.
