@@ -1,5 +1,5 @@
 -- A reading after a reading that answered.
-use Rattle.std.proofs.Common.{◌∙◌, Result, Ok, Err, IfOk, OnOk, IsErr, sym, ap, subst}
+use Rattle.std.proofs.Common.{◌∙◌, Result, Ok, Err, IfOk, IsErr, sym, ap, subst}
 use Rattle.std.specs.Borrow.{MutBor}
 use Rattle.sqlite.specs.Effect.{Database}
 use Rattle.sqlite.specs.Held.{Held, state}
@@ -14,15 +14,7 @@ use Rattle.tacho_tables.proofs.CallLemmas.{stays_then, any_ok}
 use Rattle.tacho_tables.proofs.Inside.{keeps_then}
 use Rattle.tacho_tables.specs.Readable.{IsReadable}
 use Rattle.tacho_tables.specs.Ask.{Asks}
-
--- of a result that is an error, any fact holds for the value
-no_ok : {A E : Type 0} (r : Result A E) (P : Type 0) → IsErr r → OnOk r P
-no_ok (Ok x) P fails = absurd (let e = fails in cc)
-no_ok (Err e) P fails = tt
-
-none_ok : {A E : Type 0} (r : Result A E) (P : A → Type 0) → IsErr r → IfOk r P
-none_ok (Ok x) P fails = absurd (let e = fails in cc)
-none_ok (Err e) P fails = tt
+use Rattle.tacho_check.proofs.OwnReadLemmas.{no_ok, none_ok}
 
 -- what hasn't changed is still an archive of this layout
 still : (x y : State) → IsUnchanged x y → IsArchive x.now → IsArchive y.now

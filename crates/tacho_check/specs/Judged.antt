@@ -9,6 +9,7 @@ use Rattle.tacho_state.specs.State.{Download, Entry}
 use Rattle.tacho_state.specs.Disjoint.{Keeps}
 use Rattle.tacho_state.specs.Within.{IsEntry}
 use Rattle.tacho_tables.specs.Rows.{DriverRow, driver_row, span_columns, download_columns, entry_columns}
+use Rattle.tacho_tables.specs.Ask.{three_shown, seven_shown, driver_values}
 use Rattle.tacho_tables.specs.declared.table.TableName.{TableName}
 use Rattle.tacho_tables.specs.declared.table.TableName.TheVariants.{Drivers, Downloads, CardSpans, EntryRows, Held}
 use Rattle.tacho_reading.specs.Standing.{rows_of_downloads, rows_of_entries, span_row}
@@ -143,6 +144,14 @@ IsJudged rows n None = IsOwnSound rows n Held
 IsJudged rows n (Some k) = (¬ (IsOwnSound rows n k)) × ((j : TableName) → place j < place k → IsOwnSound rows n j)
 
 -- ---- a driver without a row in `drivers`
+
+-- what is shown of a row of a table
+abbrev pub shown_of : TableName → Row → Row
+shown_of Drivers = driver_values
+shown_of Downloads = three_shown
+shown_of CardSpans = three_shown
+shown_of EntryRows = seven_shown
+shown_of Held = three_shown
 
 -- whether a table has rows of the driver
 abbrev pub HasRows : (TableName → List Row) → TableName → Bool → Type 0

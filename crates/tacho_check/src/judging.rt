@@ -1,11 +1,11 @@
 //! The judgement of the stored rows of one driver.
 
 ghost use Rattle.std.specs.Prelude.{◌≡◌, ℕ, pos, List, [], IfOk};
-ghost use Rattle.sqlite.specs.Order.{Row};
+ghost use Rattle.sqlite.specs.Order.{Row as Values};
 ghost use Rattle.tacho_tables.specs.Rows.{DriverRow};
 ghost use Rattle.tacho_tables.specs.declared.table.TableName.{TableName as Name};
-ghost use Rattle.tacho_tables.specs.Ask.{Asks, own_in};
-ghost use Rattle.tacho_check.specs.Judged.{AreFilesRead, AreSpansRead, AreHoursRead, IsReadDriver, HasRows, IsJudged};
+ghost use Rattle.tacho_tables.specs.Ask.{Asks, Show, own_in};
+ghost use Rattle.tacho_check.specs.Judged.{AreFilesRead, AreSpansRead, AreHoursRead, IsReadDriver, HasRows, IsJudged, shown_of};
 ghost use Rattle.tacho_check.specs.Registered.{IsRegistered};
 ghost use Rattle.tacho_check.specs.declared.registered.Registered.TheVariants.{Fit};
 
@@ -14,9 +14,9 @@ use crate::hours::HoursRow;
 use crate::judgement::{judge, judge_absent};
 use crate::own::{own_card_spans, own_files, own_held, own_hours};
 use crate::registered::{Basis, Registered, own_row};
-use sqlite::{Alter, Transaction};
+use sqlite::{Alter, Row, Transaction};
 use std::alloc::Global;
-use tacho_tables::asking::{card_span_rows, entry_rows, file_rows, held_rows};
+use tacho_tables::asking::{card_span_rows, driver_rows, entry_rows, file_rows, held_rows};
 use tacho_tables::{TableFault, TableName};
 use tacho_time::Span;
 
@@ -71,7 +71,7 @@ fn judge_read(
     given: &Sources,
     kept: &Timelines,
 ) -> Result<Option<TableName>, TableFault>
-    ensures { IfOk result (λ found. (rows : Name → List Row) (r : DriverRow)
+    ensures { IfOk result (λ found. (rows : Name → List Values) (r : DriverRow)
         → IsReadDriver rows r basis given.now.files kept.now.cards given.now.hours kept.now.held → IsJudged rows (pos r.driver) found) }
 {
     match judge(
@@ -103,39 +103,34 @@ fn judge_fit<S: Alter>(
     judge_read(alloc, basis, &given, &kept)
 }
 
-/// Reads whether a driver has downloads.
-fn has_files<S: Alter>(tx: &mut Transaction<'_, S>, driver: i64) -> Result<bool, TableFault>
+/// Reads a driver's rows of a table, as far as they are judged.
+fn rows_in<S: Alter>(
+    tx: &mut Transaction<'_, S>,
+    driver: i64,
+    table: TableName,
+) -> Result<Vec<Row>, TableFault>
     ensures { Asks S.Store tx.old.conn tx.new.conn result
-        (λ layout db found. HasRows (own_in layout db driver) TableName.Downloads found) }
+        (λ layout db found. Show (shown_of table) (own_in layout db driver table) found.items) }
 {
-    let rows = file_rows(tx, driver)?;
-    Ok(!rows.is_empty())
+    match table {
+        TableName::Drivers => driver_rows(tx, driver),
+        TableName::Downloads => file_rows(tx, driver),
+        TableName::CardSpans => card_span_rows(tx, driver),
+        TableName::EntryRows => entry_rows(tx, driver),
+        TableName::Held => held_rows(tx, driver),
+    }
 }
 
-/// Reads whether a driver has rows of `card_spans`.
-fn has_cards<S: Alter>(tx: &mut Transaction<'_, S>, driver: i64) -> Result<bool, TableFault>
+/// Reads whether a driver has rows in a table.
+fn has_rows<S: Alter>(
+    tx: &mut Transaction<'_, S>,
+    driver: i64,
+    table: TableName,
+) -> Result<bool, TableFault>
     ensures { Asks S.Store tx.old.conn tx.new.conn result
-        (λ layout db found. HasRows (own_in layout db driver) TableName.CardSpans found) }
+        (λ layout db found. HasRows (own_in layout db driver) table found) }
 {
-    let rows = card_span_rows(tx, driver)?;
-    Ok(!rows.is_empty())
-}
-
-/// Reads whether a driver has entries.
-fn has_hours<S: Alter>(tx: &mut Transaction<'_, S>, driver: i64) -> Result<bool, TableFault>
-    ensures { Asks S.Store tx.old.conn tx.new.conn result
-        (λ layout db found. HasRows (own_in layout db driver) TableName.EntryRows found) }
-{
-    let rows = entry_rows(tx, driver)?;
-    Ok(!rows.is_empty())
-}
-
-/// Reads whether a driver has rows of `held`.
-fn has_held<S: Alter>(tx: &mut Transaction<'_, S>, driver: i64) -> Result<bool, TableFault>
-    ensures { Asks S.Store tx.old.conn tx.new.conn result
-        (λ layout db found. HasRows (own_in layout db driver) TableName.Held found) }
-{
-    let rows = held_rows(tx, driver)?;
+    let rows = rows_in(tx, driver, table)?;
     Ok(!rows.is_empty())
 }
 
@@ -152,8 +147,8 @@ fn has_given<S: Alter>(tx: &mut Transaction<'_, S>, driver: i64) -> Result<Both,
         (λ layout db found. HasRows (own_in layout db driver) TableName.Downloads found.first
         × HasRows (own_in layout db driver) TableName.CardSpans found.second) }
 {
-    let first = has_files(tx, driver)?;
-    let second = has_cards(tx, driver)?;
+    let first = has_rows(tx, driver, TableName::Downloads)?;
+    let second = has_rows(tx, driver, TableName::CardSpans)?;
     Ok(Both { first, second })
 }
 
@@ -163,8 +158,8 @@ fn has_entered<S: Alter>(tx: &mut Transaction<'_, S>, driver: i64) -> Result<Bot
         (λ layout db found. HasRows (own_in layout db driver) TableName.EntryRows found.first
         × HasRows (own_in layout db driver) TableName.Held found.second) }
 {
-    let first = has_hours(tx, driver)?;
-    let second = has_held(tx, driver)?;
+    let first = has_rows(tx, driver, TableName::EntryRows)?;
+    let second = has_rows(tx, driver, TableName::Held)?;
     Ok(Both { first, second })
 }
 
