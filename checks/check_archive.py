@@ -78,7 +78,7 @@ WORKED: list[tuple[str, str]] = [
     ("update drivers set secret = cast(x'6b6b6b6b6b6b6b6bff' as text) where driver = 17", "unsound 17 drivers\n"),
     ("update drivers set holder = x'' where driver = 18", "unsound 18 drivers\n"),
     ("update drivers set holder = substr(holder, 1, 14) where driver = 18", "unsound 18 drivers\n"),
-    ("update drivers set holder = holder || x'00' where driver = 18", "unsound 18 drivers\n"),
+    ("update drivers set holder = zeroblob(16) where driver = 18", "unsound 18 drivers\n"),
     ("update drivers set base = base + 1", "unsound 17 drivers\n"),
     ("update drivers set base = base - 1 where driver = 18", "unsound 18 drivers\n"),
     ("update drivers set base = 10959 where driver = 18", SOUND),  # 2000-01-03
