@@ -61,7 +61,7 @@ copied_collations = Binary ∷ Binary ∷ Binary ∷ Binary ∷ Binary ∷ Binar
 pub copy_is : IsStatement (archive_schema Carried) copy_text
     (Insert 6 (Query (record { lets = []; body = record (simple 8 [] copied_shown []) { collations = copied_collations } })))
 unfolding understood everything
-copy_is = record { meant = refl; plain = (refl, refl) }
+copy_is = record { meant = refl; unlisted = refl; plain = (refl, refl) }
 
 -- the SQL that removes the entries of schema 1
 abbrev pub clear_text : List ℕ
@@ -70,7 +70,7 @@ clear_text = codes "DELETE FROM entries"
 -- the statement that `clear_text` is
 pub clear_is : IsStatement (archive_schema Carried) clear_text (Delete 4 (record { lets = []; body = simple 8 [] (col 1 0 ∷ []) [] }))
 unfolding understood everything
-clear_is = record { meant = refl; plain = (refl, refl) }
+clear_is = record { meant = refl; unlisted = refl; plain = (refl, refl) }
 
 -- the SQL that sets the version
 abbrev pub version_set_text : List ℕ
@@ -84,7 +84,7 @@ with_version_shown = col 1 0 ∷ col 1 0 ∷ lit Null ∷ lit (Int (pos 2)) ∷ 
 pub version_set_is : IsStatement (archive_schema Carried) version_set_text
     (Update 0 (record { lets = []; body = simple 0 first_row with_version_shown [] }))
 unfolding understood everything
-version_set_is = record { meant = refl; plain = (refl, refl) }
+version_set_is = record { meant = refl; unlisted = refl; plain = (refl, refl) }
 
 -- ---- what each statement leaves
 

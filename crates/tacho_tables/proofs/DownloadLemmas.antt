@@ -19,7 +19,7 @@ use Rattle.tacho_tables.proofs.Answers.{passes, listed, shows, eq_test}
 use Rattle.tacho_tables.proofs.Stored.{stands_put, shown_of}
 use Rattle.tacho_tables.proofs.Idle.{idle}
 use Rattle.tacho_tables.proofs.Kept.{with_downloads}
-use Rattle.tacho_tables.proofs.Places.{downloads_listed}
+use Rattle.tacho_tables.proofs.Places.{downloads_at}
 use Rattle.tacho_tables.proofs.SpanLemmas.{and-true, none_given}
 use Rattle.tacho_tables.proofs.Statements.{four, numbered, download_insert_text, download_insert_is, file_text, file_is}
 use Rattle.tacho_tables.proofs.TurnLemmas.{turns}
@@ -34,7 +34,7 @@ adds_download old new x count is h =
     let t = made.downloads in
     let it = download_insert_is is.layout in
     let e = inserted (archive_schema is.layout) old new is.schema download_insert_text it.plain (download_columns x) count 2
-    (codes "downloads") 4 t.columns None (1 ∷ 2 ∷ []) ((1 ∷ 2 ∷ []) ∷ []) t.orders [] (to_driver ∷ []) (downloads_listed is.layout)
+    (codes "downloads") 4 t.columns None (1 ∷ 2 ∷ []) ((1 ∷ 2 ∷ []) ∷ []) t.orders [] (to_driver ∷ []) (downloads_at is.layout)
     (idle is.layout 4) four 5 it.meant ((Null ∷ download_columns x) ∷ []) refl h in
     let stored = rw (cast_null, cast_int (pos x.driver), cast_int (pos x.number), cast_int (pos x.part)) at e.applies.rows in
     let fresh = rw cast_null at e.applies.fresh in

@@ -24,7 +24,7 @@ use Rattle.tacho_tables.specs.Tables.{IsArchive, Turns, has_number, has_secret, 
 use Rattle.tacho_tables.proofs.Answers.{simple, passes, listed, shows, eq_test, text_test, blob_test}
 use Rattle.tacho_tables.proofs.Idle.{idle}
 use Rattle.tacho_tables.proofs.Kept.{with_drivers}
-use Rattle.tacho_tables.proofs.Places.{drivers_listed}
+use Rattle.tacho_tables.proofs.Places.{drivers_at}
 use Rattle.tacho_tables.proofs.Numbered.{numbered_put, numbered_shown, numbered_updated}
 use Rattle.tacho_tables.proofs.SpanLemmas.{and-true, none_given}
 use Rattle.tacho_tables.proofs.Statements.{IsStatement, IsReading, column_is, driver_values, driver_insert_text, driver_insert_is, with_base_shown, with_count_shown, base_text, base_is, with_key_shown, key_text, key_is, with_name_shown, name_text, name_is, count_text, count_is, with_entry_count_shown, entry_count_text, entry_count_is}
@@ -46,7 +46,7 @@ adds_driver old new driver holder secret base name count is h =
     let params = Int (pos driver) ∷ Blob holder ∷ Text secret ∷ Int (pos base) ∷ Text name ∷ [] in
     let it = driver_insert_is is.layout in
     let e = inserted (archive_schema is.layout) old new is.schema driver_insert_text it.plain params count 1 (codes "drivers") 1 t.columns
-    (Some 0) (0 ∷ []) ((2 ∷ []) ∷ (3 ∷ []) ∷ []) t.orders [] [] (drivers_listed is.layout) (idle is.layout 1)
+    (Some 0) (0 ∷ []) ((2 ∷ []) ∷ (3 ∷ []) ∷ []) t.orders [] [] (drivers_at is.layout) (idle is.layout 1)
     driver_values 8 it.meant (driver_row x ∷ []) refl h in
     let stored = rw (cast_int (pos driver), cast_null, cast_int (pos base), cast_int (pos 0)) at e.applies.rows in
     let fresh = rw (cast_int (pos driver)) at e.applies.fresh in
@@ -108,7 +108,7 @@ module _ (old new : State) (driver : ℕ) (value : Value) (count : ℕ) (is : Is
       let t = made.drivers in
       let it = each is.layout in
       let e = updated (archive_schema is.layout) old new is.schema text it.plain params count 1 (codes "drivers") 1 t.columns (Some 0)
-      (0 ∷ []) ((2 ∷ []) ∷ (3 ∷ []) ∷ []) t.orders [] [] (drivers_listed is.layout) (idle is.layout 1) _ it.meant h in
+      (0 ∷ []) ((2 ∷ []) ∷ (3 ∷ []) ∷ []) t.orders [] [] (drivers_at is.layout) (idle is.layout 1) _ it.meant h in
       let l = listed 1 (column_is 0) terms [] (overlay db []) params e.0 (e.1.answer Null) in
       let found = rw (none_given db 1) at (shows 1 (column_is 0) terms [] (overlay db []) params e.0 l) in
       let left = without_all (db 1) (ids_of e.0) in

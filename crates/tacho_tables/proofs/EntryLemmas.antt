@@ -32,7 +32,7 @@ use Rattle.tacho_tables.proofs.Updates.{stands_chosen, stands_updated}
 use Rattle.tacho_tables.proofs.CatalogLemmas.{entries_stand}
 use Rattle.tacho_tables.proofs.Idle.{idle}
 use Rattle.tacho_tables.proofs.Kept.{with_held, with_entries}
-use Rattle.tacho_tables.proofs.Places.{entry_place, entries_listed, spans_listed}
+use Rattle.tacho_tables.proofs.Places.{entry_place, entries_at, spans_at}
 use Rattle.tacho_tables.proofs.TurnLemmas.{turns}
 use Rattle.tacho_tables.proofs.SpanLemmas.{and-true, none_given, tests_begun}
 use Rattle.tacho_tables.proofs.Statements.{IsStatement, IsReading, begun, own, numbered, held_delete_text, held_delete_is, withdrawn_shown, withdraw_text, withdraw_is, kept_near}
@@ -50,7 +50,7 @@ deletes_begun old new driver start past count is h =
     let t = spans (codes "held") in
     let it = held_delete_is is.layout in
     let e = deleted (archive_schema is.layout) old new is.schema held_delete_text it.plain params count 5 (codes "held") 10 t.columns None
-    (1 ∷ 2 ∷ []) ((1 ∷ 2 ∷ []) ∷ []) t.orders [] (to_driver ∷ []) (spans_listed is.layout Held) (idle is.layout 10) _ it.meant h in
+    (1 ∷ 2 ∷ []) ((1 ∷ 2 ∷ []) ∷ []) t.orders [] (to_driver ∷ []) (spans_at Held is.layout) (idle is.layout 10) _ it.meant h in
     let l = listed 10 begun (col 1 0 ∷ []) [] (overlay db []) params e.0 (e.1.answer Null) in
     let found = rw (none_given db 10) at (shows 10 begun (col 1 0 ∷ []) [] (overlay db []) params e.0 l) in
     turns old new is e.2 (λ a. record a { held = filter (λ r. not (is_begun driver start past r)) a.held })
@@ -108,7 +108,7 @@ adds_entries text terms params xs old new count is each given h =
     let it = each is.layout in
     let news : List Row = map unnumbered xs in
     let e = inserted (archive_schema is.layout) old new is.schema text it.plain params count (entry_place is.layout)
-    (codes "entry_rows") tree t.columns None (1 ∷ 2 ∷ []) ((1 ∷ 2 ∷ []) ∷ []) t.orders t.checks (to_driver ∷ []) (entries_listed is.layout)
+    (codes "entry_rows") tree t.columns None (1 ∷ 2 ∷ []) ((1 ∷ 2 ∷ []) ∷ []) t.orders t.checks (to_driver ∷ []) (entries_at is.layout)
     (idle is.layout tree) terms 9 it.meant news given h in
     let stored : e.next tree ≡ put_all rows (with_numbers Chosen rows news) =
     e.applies.rows ∙ ap (λ ns. put_all rows (with_numbers Chosen rows ns)) (cast_all tree xs) in
@@ -145,7 +145,7 @@ withdraws old new driver number count is h =
     let t = made.entry_rows in
     let it = withdraw_is is.layout in
     let e = updated (archive_schema is.layout) old new is.schema withdraw_text it.plain params count (entry_place is.layout)
-    (codes "entry_rows") tree t.columns None (1 ∷ 2 ∷ []) ((1 ∷ 2 ∷ []) ∷ []) t.orders t.checks (to_driver ∷ []) (entries_listed is.layout)
+    (codes "entry_rows") tree t.columns None (1 ∷ 2 ∷ []) ((1 ∷ 2 ∷ []) ∷ []) t.orders t.checks (to_driver ∷ []) (entries_at is.layout)
     (idle is.layout tree) _ it.meant h in
     let l = listed tree numbered withdrawn_shown [] (overlay db []) params e.0 (e.1.answer Null) in
     let found = rw (none_given db tree) at (shows tree numbered withdrawn_shown [] (overlay db []) params e.0 l) in

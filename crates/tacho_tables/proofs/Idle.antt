@@ -4,7 +4,8 @@ use Rattle.sqlite.specs.Order.{Row}
 use Rattle.sqlite_schema.specs.declared.schema.Keys.TheVariants.{Enforced}
 use Rattle.sqlite_schema.specs.declared.schema.Action.TheVariants.{NoAction}
 use Rattle.sqlite_rules.specs.Action.{works, deed_of}
-use Rattle.tacho_tables.specs.Schema.{Layout, Made, Carried, archive_schema}
+use Rattle.tacho_tables.specs.Schema.{Layout, archive_schema}
+use Rattle.tacho_tables.proofs.Layouts.{each}
 
 -- a foreign key with NO ACTION has no effect
 none : (b : Bool) → deed_of Enforced b (cond b NoAction NoAction) ≡ None
@@ -13,5 +14,5 @@ none false = refl
 
 -- no edit of a table makes a foreign key act
 pub idle : (layout : Layout) (tree : ℕ) (olds news : List Row) → works (archive_schema layout) Enforced 0 tree olds news ≡ []
-idle Made tree olds news = rw (none (length news == 0)) refl
-idle Carried tree olds news = rw (none (length news == 0)) refl
+idle layout tree olds news =
+    each (λ l. works (archive_schema l) Enforced 0 tree olds news) (λ l. []) (rw (none (length news == 0)) refl) layout

@@ -1,6 +1,6 @@
 -- The latest span that begins before a minute.
 use Rattle.std.proofs.Common.{◌≡◌, ◌∙◌, ℕ, suc, pos, ◌≤◌, ◌↔◌, Ordering, Less, Equal, Greater, List, [], ◌∷◌, map, filter, take, false, Option, Some, None, refl, sym, ap, subst, arith, add-one}
-use Rattle.std.specs.Prelude.{nat_lt, IfSome, IsNone, MatchOption}
+use Rattle.std.specs.Prelude.{nat_lt, MatchOption}
 use Rattle.std.specs.List.{AllByRecursion}
 use Rattle.std.specs.List.Sorted.{IsPermutation, IsSorted, IsSortedBy}
 use Rattle.std.specs.Ordering.{is_lt, int_cmp, ordering_then}
@@ -22,7 +22,8 @@ use Rattle.tacho_tables.specs.Rows.{AreRowsOf, SpanRow, span_columns}
 use Rattle.tacho_tables.specs.declared.rows.StoredSpan.{StoredSpan}
 use Rattle.tacho_tables.specs.Tables.{IsArchive, IsLatest, is_before, span_of, span_shown}
 use Rattle.tacho_tables.proofs.Answers.{simple, passes, listed_first}
-use Rattle.tacho_tables.proofs.Reading.{none_of_none}
+use Rattle.tacho_tables.specs.Calls.{IsFirst}
+use Rattle.tacho_tables.proofs.Reading.{head_is, none_of_none}
 use Rattle.tacho_tables.proofs.SpanLemmas.{tests_before, none_given}
 use Rattle.tacho_tables.proofs.SortedLemmas.{sorted_before}
 use Rattle.tacho_tables.proofs.Statements.{IsReadingFirst, before, three_shown, by_start_down, span_names}
@@ -64,20 +65,21 @@ latest_first r (x ∷ rows) h =
 -- the first row shows the latest span, or there are no rows
 found_in : (wanted to : List SpanRow) (rows : List Row) (found : Option StoredSpan) → IsPermutation wanted to
     → IsSortedBy (λ x y. nat_lt y.start x.start) to → rows ≡ take 1 (map span_shown to)
-    → (IsNone found ↔ (rows ≡ []))
-    → IfSome found (λ s. (r : SpanRow) (more : List Row) → rows ≡ span_shown r ∷ more → s ≡ span_of r)
+    → IsFirst span_shown (λ s. s) span_of rows found
     → MatchOption found (wanted ≡ []) (λ s. (r : SpanRow) × IsLatest r wanted × (s ≡ span_of r))
-found_in wanted [] rows None moved sorted shown none some = none_of_none wanted moved
-found_in wanted [] rows (Some s) moved sorted shown none some = absurd (let e = none.1 shown in cc)
-found_in wanted (r ∷ to) rows None moved sorted shown none some = absurd (let e = sym shown ∙ none.0 refl in cc)
-found_in wanted (r ∷ to) rows (Some s) moved sorted shown none some =
+found_in wanted [] rows None moved sorted shown first = none_of_none wanted moved
+found_in wanted [] [] (Some s) moved sorted shown first = absurd first
+found_in wanted [] (row ∷ rows) (Some s) moved sorted shown first = cc
+found_in wanted (r ∷ to) rows None moved sorted shown first = absurd (let e = sym shown ∙ first in cc)
+found_in wanted (r ∷ to) [] (Some s) moved sorted shown first = absurd first
+found_in wanted (r ∷ to) (row ∷ rows) (Some s) moved sorted shown first =
     let back = IsPermutation-sym wanted (r ∷ to) moved in (
       r,
       record {
         one = Contains-permutation (r ∷ to) wanted r back (0, omega arith, refl);
         latest = All-permutation (λ (x : SpanRow). x.start ≤ r.start) (r ∷ to) wanted back (All-from_recursion (λ (x : SpanRow). x.start ≤ r.start) (r ∷ to) (latest_first r to sorted));
       },
-      some r [] shown,
+      first r (head_is shown),
     )
 
 -- a reading of the latest span that begins before a minute finds it
@@ -85,10 +87,10 @@ pub finds_latest : (text : List ℕ) (tree : ℕ)
     → ((layout : Layout) → IsReadingFirst (archive_schema layout) text tree before three_shown by_start_down span_names)
     → (driver minute : ℕ) (old new : State) (rows : List Row) → IsArchive old.now
     → Shown text (Int (pos driver) ∷ Int (pos minute) ∷ []) old new rows
-    → (all : List SpanRow) → AreRowsOf span_columns (old.now.trees tree) all → (found : Option StoredSpan) → (IsNone found ↔ (rows ≡ []))
-    → IfSome found (λ s. (r : SpanRow) (more : List Row) → rows ≡ span_shown r ∷ more → s ≡ span_of r)
+    → (all : List SpanRow) → AreRowsOf span_columns (old.now.trees tree) all → (found : Option StoredSpan)
+    → IsFirst span_shown (λ s. s) span_of rows found
     → MatchOption found (filter (is_before driver minute) all ≡ []) (λ s. (r : SpanRow) × IsLatest r (filter (is_before driver minute) all) × (s ≡ span_of r))
-finds_latest text tree each driver minute old new rows is h all s found none some =
+finds_latest text tree each driver minute old new rows is h all s found first =
     let db = old.now.trees in
     let params = Int (pos driver) ∷ Int (pos minute) ∷ [] in
     let q = simple tree before three_shown by_start_down in
@@ -101,4 +103,4 @@ finds_latest text tree each driver minute old new rows is h all s found none som
     let back = pull_back shown_as _ l.all same wanted refl in
     let sorted = sorted_before shown_as (λ a b. is_lt (output_cmp q a b)) (λ x y. nat_lt y.start x.start) back.0 (by_starts tree) (subst (IsSorted (output_cmp q)) back.2 l.sorted) in
     found_in wanted back.0 rows found back.1 sorted
-    (l.shown_is ∙ ap (λ xs. take 1 (map (λ (o : Output). o.1) xs)) back.2 ∙ ap (take 1) (map-map (λ (o : Output). o.1) shown_as back.0)) none some
+    (l.shown_is ∙ ap (λ xs. take 1 (map (λ (o : Output). o.1) xs)) back.2 ∙ ap (take 1) (map-map (λ (o : Output). o.1) shown_as back.0)) first

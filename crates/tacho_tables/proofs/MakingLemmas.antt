@@ -1,8 +1,7 @@
 -- What CREATE TABLE leaves, and what is read from `meta`.
-use Rattle.std.proofs.Common.{◌≡◌, ℕ, pos, List, [], ◌∷◌, codes, Ok, Option, Some, None, true, false, inl, inr, refl, sym, ap, subst, ◌∙◌}
+use Rattle.std.proofs.Common.{◌≡◌, ℕ, pos, List, [], ◌∷◌, codes, Ok, Err, Option, Some, None, true, false, inl, inr, refl, sym, ap, subst, ◌∙◌}
 use Rattle.std.proofs.Common.{arith}
-use Rattle.std.specs.Prelude.{IfSome, IsNone, ◌↔◌}
-use Rattle.std.specs.Prelude.{IsPermutation}
+use Rattle.std.specs.Prelude.{IsPermutation, IfOk, IsErr, Result}
 use Rattle.std.proofs.lemmas.List.Sorted.{IsPermutation-refl, length_permutation}
 use Rattle.sqlite.specs.declared.types.Value.TheVariants.{Null, Int}
 use Rattle.sqlite.specs.Order.{Row}
@@ -15,6 +14,8 @@ use Rattle.tacho_tables.specs.Schema as made
 use Rattle.tacho_tables.specs.Rows.{AreRowsOf, AreNumberedRowsOf, span_columns, download_columns, entry_columns}
 use Rattle.tacho_tables.specs.Tables.{HasTables, IsArchive, IsVersion, no_rows}
 use Rattle.tacho_tables.specs.Making.{AreEmpty, IsVersioned}
+use Rattle.tacho_tables.specs.Calls.{IsFirst}
+use Rattle.tacho_tables.proofs.Reading.{head_is}
 use Rattle.tacho_tables.proofs.Idle.{idle}
 use Rattle.tacho_tables.proofs.Answers.{listed, shows, eq_test}
 use Rattle.tacho_tables.proofs.SpanLemmas.{none_given}
@@ -75,7 +76,7 @@ meta_row = Int (pos 1) ∷ Null ∷ Int (pos 2) ∷ []
 -- the statement that `meta_row_text` is
 meta_row_is : IsStatement (archive_schema Made) meta_row_text (Insert 0 (Values meta_values 3))
 unfolding understood everything
-meta_row_is = record { meant = refl; plain = (refl, refl) }
+meta_row_is = record { meant = refl; unlisted = refl; plain = (refl, refl) }
 
 -- no rows represent the empty list
 pub nothing_stands : {X : Type 0} (columns : X → Row) (rows : List Row) → rows ≡ [] → AreRowsOf columns rows []
@@ -137,11 +138,11 @@ shows_version version old new rows has h is =
     (shows 0 first_row shown [] (overlay db []) [] rows l))
 
 -- the number that is read from the first such row is the version
-pub first_is : (version : ℕ) (found : Option ℕ) (rows : List Row) → rows ≡ (Int (pos version) ∷ []) ∷ [] → (IsNone found ↔ (rows ≡ []))
-    → IfSome found (λ n. (m : ℕ) (more : List Row) → rows ≡ (Int (pos m) ∷ []) ∷ more → n ≡ m)
-    → found ≡ Some version
-first_is version None rows is none some = absurd (let e = sym is ∙ none.0 refl in cc)
-first_is version (Some n) rows is none some = ap Some (some version [] is)
+pub first_is : (version : ℕ) (found : Option ℕ) (rows : List Row) → rows ≡ (Int (pos version) ∷ []) ∷ []
+    → IsFirst (λ n. Int (pos n) ∷ []) (λ n. n) (λ n. n) rows found → found ≡ Some version
+first_is version None rows is first = absurd (let e = sym is ∙ first in cc)
+first_is version (Some n) [] is first = absurd first
+first_is version (Some n) (row ∷ rows) is first = ap Some (first version (head_is is))
 
 -- only the empty list is a permutation of the empty list
 pub no_permutation : (rows : List Row) → IsPermutation [] rows → rows ≡ []
@@ -160,6 +161,13 @@ shows_no_version old new rows has h is =
     no_permutation rows (rw (none_given db 0, is) at (shows 0 first_row shown [] (overlay db []) [] rows l))
 
 -- so no version is found
-pub first_is_none : (found : Option ℕ) (rows : List Row) → rows ≡ [] → (IsNone found ↔ (rows ≡ [])) → found ≡ None
-first_is_none None rows is none = refl
-first_is_none (Some n) rows is none = let no = none.1 is in cc
+pub first_is_none : (found : Option ℕ) (rows : List Row) → rows ≡ []
+    → IsFirst (λ n. Int (pos n) ∷ []) (λ n. n) (λ n. n) rows found → found ≡ None
+first_is_none None rows is first = refl
+first_is_none (Some n) [] is first = absurd first
+first_is_none (Some n) (row ∷ rows) is first = cc
+
+-- a reading that can't have an answer fails
+pub none_shown : {A E : Type 0} {P : A → Type 0} (r : Result A E) → ((x : A) → P x → ⊥) → IfOk r P → IsErr r
+none_shown (Ok x) none it = absurd (none x it)
+none_shown (Err e) none it = refl

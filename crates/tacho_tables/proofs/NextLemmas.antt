@@ -42,12 +42,12 @@ use Rattle.sqlite_value.specs.Order.{value_cmp}
 use Rattle.sqlite_value.proofs.OrderLemmas.{value_cmp-Int}
 use Rattle.tacho_tables.specs.Next.{AreOnward, IsKept, onward_text, IsAsked, BeginsOnward}
 use Rattle.tacho_tables.specs.Rows.{AreRowsOf, SpanRow, span_columns}
-use Rattle.tacho_tables.specs.Schema.{Layout, Made, Carried, archive_schema}
+use Rattle.tacho_tables.specs.Schema.{Layout, archive_schema}
 use Rattle.tacho_tables.specs.Tables.{IsArchive, is_onward, span_shown}
 use Rattle.tacho_tables.proofs.Answers.{simple, passes, listed, eq_test, le_test}
 use Rattle.tacho_tables.proofs.SortedLemmas.{sorted_before}
 use Rattle.tacho_tables.proofs.SpanLemmas.{and-true, none_given}
-use Rattle.tacho_tables.proofs.Statements.{IsReading, three_shown, by_start, span_names}
+use Rattle.tacho_tables.proofs.Statements.{IsReading, stated, three_shown, by_start, span_names}
 use Rattle.tacho_tables.proofs.Stored.{shown_of}
 
 -- ---- the text
@@ -59,8 +59,7 @@ onward = op2 (Compare Eq Binary) (col 1 1) (col 0 0) ∷ op2 (Compare Le Binary)
 -- the reading that `onward_text` is
 pub onward_is : (layout : Layout) → IsReading (archive_schema layout) onward_text 10 onward three_shown by_start span_names
 unfolding understood everything
-onward_is Made = record { meant = refl; unlisted = refl; plain = (refl, refl) }
-onward_is Carried = record { meant = refl; unlisted = refl; plain = (refl, refl) }
+onward_is = stated _ _ refl
 
 -- its SQL tests are `is_onward`
 onward_test : (driver start : ℕ) (v : Value) (x : SpanRow)

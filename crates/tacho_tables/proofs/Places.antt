@@ -5,6 +5,7 @@ use Rattle.tacho_tables.specs.Schema as made
 use Rattle.tacho_tables.specs.declared.spans.SpanTable.{SpanTable}
 use Rattle.tacho_tables.specs.declared.spans.SpanTable.TheVariants.{CardSpans, Held}
 use Rattle.tacho_tables.specs.Spans.{span_table_rows}
+use Rattle.tacho_tables.proofs.Layouts.{each}
 
 -- the place of `entry_rows`
 abbrev pub entry_place : Layout → ℕ
@@ -22,30 +23,30 @@ name_of CardSpans = codes "card_spans"
 name_of Held = codes "held"
 
 -- `meta` is the first table
-pub meta_listed : (layout : Layout) → slice_get (archive_schema layout).tables 0 ≡ Some (record made.meta { tree = 0 })
-meta_listed Made = refl
-meta_listed Carried = refl
+pub meta_at : (layout : Layout) → slice_get (archive_schema layout).tables 0 ≡ Some (record made.meta { tree = 0 })
+meta_at = each _ _ refl
 
 -- `drivers` is the second
-pub drivers_listed : (layout : Layout) → slice_get (archive_schema layout).tables 1 ≡ Some (record made.drivers { tree = 1 })
-drivers_listed Made = refl
-drivers_listed Carried = refl
+pub drivers_at : (layout : Layout) → slice_get (archive_schema layout).tables 1 ≡ Some (record made.drivers { tree = 1 })
+drivers_at = each _ _ refl
 
 -- `downloads` is the third
-pub downloads_listed : (layout : Layout) → slice_get (archive_schema layout).tables 2 ≡ Some (record made.downloads { tree = 4 })
-downloads_listed Made = refl
-downloads_listed Carried = refl
+pub downloads_at : (layout : Layout) → slice_get (archive_schema layout).tables 2 ≡ Some (record made.downloads { tree = 4 })
+downloads_at = each _ _ refl
 
--- a table of spans is at its place
-pub spans_listed : (layout : Layout) (table : SpanTable)
+-- the tables of spans are the fourth and the sixth
+pub card_spans_at : (layout : Layout) → slice_get (archive_schema layout).tables 3 ≡ Some (record (spans (codes "card_spans")) { tree = 6 })
+card_spans_at = each _ _ refl
+
+pub held_at : (layout : Layout) → slice_get (archive_schema layout).tables 5 ≡ Some (record (spans (codes "held")) { tree = 10 })
+held_at = each _ _ refl
+
+pub spans_at : (table : SpanTable) (layout : Layout)
     → slice_get (archive_schema layout).tables (place_of table) ≡ Some (record (spans (name_of table)) { tree = span_table_rows table })
-spans_listed Made CardSpans = refl
-spans_listed Made Held = refl
-spans_listed Carried CardSpans = refl
-spans_listed Carried Held = refl
+spans_at CardSpans = card_spans_at
+spans_at Held = held_at
 
 -- `entry_rows` is at its place
-pub entries_listed : (layout : Layout)
+pub entries_at : (layout : Layout)
     → slice_get (archive_schema layout).tables (entry_place layout) ≡ Some (record made.entry_rows { tree = entry_tree layout })
-entries_listed Made = refl
-entries_listed Carried = refl
+entries_at = each _ _ refl

@@ -1,16 +1,17 @@
 -- The spans that are read from rows.
 use Rattle.std.proofs.Common.{◌≡◌, ◌∙◌, ℕ, ◌≤◌, List, [], ◌∷◌, ◌++◌, append-nil, drop, drop_of_length-le, length, map, refl, sym, ap, subst, Option, Some, None, Result, Ok, Err, IfOk, arith}
-use Rattle.std.specs.Prelude.{Contains, IfSome, IsNone, MatchOption, ◌↔◌}
+use Rattle.std.specs.Prelude.{Contains, MatchOption}
 use Rattle.std.specs.List.Sorted.{IsPermutation}
 use Rattle.std.proofs.lemmas.List.Sorted.{IsPermutation-sym, IsPermutation-map, Contains-permutation, length_permutation}
 use Rattle.sqlite_trees.proofs.ListLemmas.{pull_back, map-map}
 use Rattle.sqlite.specs.Order.{Row}
 use Rattle.tacho_tables.specs.declared.rows.StoredSpan.{StoredSpan}
+use Rattle.tacho_tables.specs.Calls.{AreMade, IsFirst}
 use Rattle.tacho_tables.specs.Rows.{SpanRow}
 use Rattle.tacho_tables.specs.Tables.{span_of, span_shown}
 
 -- equal lists have equal heads
-head_is : {A : Type 0} {x y : A} {xs ys : List A} → x ∷ xs ≡ y ∷ ys → x ≡ y
+pub head_is : {A : Type 0} {x y : A} {xs ys : List A} → x ∷ xs ≡ y ∷ ys → x ≡ y
 head_is e = cc
 
 -- and equal tails
@@ -35,21 +36,23 @@ pub none_of_none : {X : Type 0} (xs : List X) → IsPermutation xs [] → xs ≡
 none_of_none [] same = refl
 none_of_none (x ∷ xs) same = absurd (let e = length_permutation (x ∷ xs) [] same in omega (arith, e))
 
--- the value read from the first row is one of the values that the rows show
-pub first_found : {X A : Type 0} (show : X → Row) (is : A → X → Type 0) (found : Option A) (rows : List Row) (xs : List X)
-    → IsPermutation (map show xs) rows → (IsNone found ↔ (rows ≡ []))
-    → IfSome found (λ a. (x : X) (more : List Row) → rows ≡ show x ∷ more → is a x)
-    → MatchOption found (xs ≡ []) (λ a. (x : X) × Contains xs x × is a x)
-first_found show is found rows xs same none some = let it = pull_back show _ rows same xs refl in go found it.0 it.1 it.2 none some
+-- the value that is made of the first row is made of one of the values that the rows show
+pub first_found : {X Y T V : Type 0} (columns : X → Row) (told : T → V) (meant : X → V) (of : Y → X) (found : Option T) (rows : List Row) (ys : List Y)
+    → IsPermutation (map (λ y. columns (of y)) ys) rows → IsFirst columns told meant rows found
+    → MatchOption found (ys ≡ []) (λ it. (y : Y) × Contains ys y × (told it ≡ meant (of y)))
+first_found columns told meant of found rows ys same first =
+    let it = pull_back (λ y. columns (of y)) _ rows same ys refl in go found it.0 it.1 rows it.2 first
   where
-    go : (found : Option _) (to : List _) → IsPermutation xs to → rows ≡ map show to → (IsNone found ↔ (rows ≡ []))
-        → IfSome found (λ a. (x : _) (more : List Row) → rows ≡ show x ∷ more → is a x)
-        → MatchOption found (xs ≡ []) (λ a. (x : _) × Contains xs x × is a x)
-    go None [] moved shown none some = none_of_none xs moved
-    go None (x ∷ to) moved shown none some = absurd (let e = sym shown ∙ none.0 refl in cc)
-    go (Some a) [] moved shown none some = absurd (let e = none.1 shown in cc)
-    go (Some a) (x ∷ to) moved shown none some =
-        (x, Contains-permutation (x ∷ to) xs x (IsPermutation-sym _ _ moved) (0, omega (arith), refl), some x (map show to) shown)
+    go : (found : Option _) (to : List _) → IsPermutation ys to → (rows : List Row) → rows ≡ map (λ y. columns (of y)) to
+        → IsFirst columns told meant rows found
+        → MatchOption found (ys ≡ []) (λ it. (y : _) × Contains ys y × (told it ≡ meant (of y)))
+    go None [] moved rows shown first = none_of_none ys moved
+    go None (y ∷ to) moved rows shown first = absurd (let e = sym shown ∙ first in cc)
+    go (Some it) [] moved [] shown first = absurd first
+    go (Some it) [] moved (row ∷ rows) shown first = cc
+    go (Some it) (y ∷ to) moved [] shown first = absurd first
+    go (Some it) (y ∷ to) moved (row ∷ rows) shown first =
+        (y, Contains-permutation (y ∷ to) ys y (IsPermutation-sym _ _ moved) (0, omega (arith), refl), first (of y) (head_is shown))
 
 -- two facts about a result's value imply a third
 pub ok_both : {X E : Type 0} (r : Result X E) {P Q R : X → Type 0} → ((x : X) → P x → Q x → R x) → IfOk r P → IfOk r Q → IfOk r R
@@ -69,9 +72,18 @@ all_read show is xs rows same found reads =
     let it = pull_back show _ rows same xs refl in
     subst (IsPermutation (map is xs)) (sym (reads it.0 it.2)) (IsPermutation-map is xs it.0 it.1)
 
--- spans that are read from the rows of other values
-pub spans_read : {X : Type 0} (row : X → SpanRow) (xs : List X) (rows : List Row) → IsPermutation (map (λ x. span_shown (row x)) xs) rows → (found : List StoredSpan)
-    → ((shown : List SpanRow) → rows ≡ map span_shown shown → found ≡ map span_of shown) → IsPermutation (map (λ x. span_of (row x)) xs) found
-spans_read row xs rows same found reads =
+-- the spans that are made of rows
+pub spans_made : (rows : List Row) (found : List StoredSpan) → AreMade span_shown (λ s. s) span_of rows found
+    → (shown : List SpanRow) → rows ≡ map span_shown shown → found ≡ map span_of shown
+spans_made rows found made shown is = same found ∙ made shown is where
+  same : (xs : List StoredSpan) → xs ≡ map (λ s. s) xs
+  same [] = refl
+  same (x ∷ xs) = ap (λ ys. x ∷ ys) (same xs)
+
+-- spans that are made of the rows of other values
+pub spans_read : {X : Type 0} (row : X → SpanRow) (xs : List X) (rows : List Row) → IsPermutation (map (λ x. span_shown (row x)) xs) rows
+    → (found : List StoredSpan) → AreMade span_shown (λ s. s) span_of rows found → IsPermutation (map (λ x. span_of (row x)) xs) found
+spans_read row xs rows same found made =
     subst (λ (ys : List StoredSpan). IsPermutation ys found) (map-map span_of row xs)
-    (all_read span_shown span_of (map row xs) rows (subst (λ (ys : List Row). IsPermutation ys rows) (sym (map-map span_shown row xs)) same) found reads)
+    (all_read span_shown span_of (map row xs) rows (subst (λ (ys : List Row). IsPermutation ys rows) (sym (map-map span_shown row xs)) same) found
+    (spans_made rows found made))

@@ -22,19 +22,21 @@ use Rattle.sqlite.specs.State.{State, Executes, Shown}
 use Rattle.sqlite.proofs.Callers.{reads_as}
 use Rattle.tacho_tables.specs.Schema.{Layout, archive_schema, to_driver, spans}
 use Rattle.tacho_tables.specs.Rows.{AreRowsOf, SpanRow, span_columns}
+use Rattle.tacho_tables.specs.Calls.{AreMade}
 use Rattle.tacho_tables.specs.declared.rows.StoredSpan.{StoredSpan}
 use Rattle.tacho_tables.specs.declared.spans.SpanTable.{SpanTable}
 use Rattle.tacho_tables.specs.declared.spans.SpanTable.TheVariants.{CardSpans, Held}
 use Rattle.tacho_tables.specs.Spans.{spans_in, with_span_rows, span_table_rows}
 use Rattle.tacho_tables.specs.Tables.{Tables, HasTables, IsArchive, Turns, is_before, is_begun, is_of, span_shown, span_of, row_of}
 use Rattle.tacho_tables.proofs.Answers.{passes, listed, shows, eq_test, lt_test, le_test}
+use Rattle.tacho_tables.proofs.Reading.{spans_made}
 use Rattle.tacho_tables.proofs.Stored.{stands_shuffled, shown_of}
 use Rattle.tacho_tables.proofs.Idle.{idle}
 use Rattle.sqlite_catalog.specs.Listing.{IsSound}
 use Rattle.tacho_tables.proofs.Firsts.{moved}
 use Rattle.tacho_tables.proofs.Kept.{AreKept, kept_itself, with_held, with_card_spans}
 use Rattle.tacho_tables.proofs.Statements.{IsStatement, IsReading, before, begun, own, three_shown, by_start, span_names}
-use Rattle.tacho_tables.proofs.Places.{place_of, name_of, spans_listed}
+use Rattle.tacho_tables.proofs.Places.{place_of, name_of, spans_at}
 use Rattle.tacho_tables.proofs.TurnLemmas.{turns}
 use Rattle.tacho_tables.proofs.Updates.{stands_chosen}
 use Rattle.tacho_tables.proofs.Writes.{flat, inserted, cast_null, cast_int}
@@ -54,7 +56,7 @@ pub record IsSpanTable (at tree : ℕ) (name : List ℕ) (get : Tables → List 
 -- each of the two tables is such a table
 pub span_table : (table : SpanTable) → IsSpanTable (place_of table) (span_table_rows table) (name_of table) (spans_in table) (with_span_rows table)
 span_table CardSpans = record {
-  place = λ layout. spans_listed layout CardSpans;
+  place = λ layout. spans_at CardSpans layout;
   got = λ xs a. refl;
   same = λ a. refl;
   again = λ xs ys a. refl;
@@ -62,7 +64,7 @@ span_table CardSpans = record {
   changed = with_card_spans;
 }
 span_table Held = record {
-  place = λ layout. spans_listed layout Held;
+  place = λ layout. spans_at Held layout;
   got = λ xs a. refl;
   same = λ a. refl;
   again = λ xs ys a. refl;
@@ -107,11 +109,12 @@ module _ (text : List ℕ) (tree : ℕ) (tests : List Term) (params : Row) (p : 
       (rw (none_given db tree) at (shows tree tests three_shown by_start (overlay db []) params rows l))
 
   -- the spans that are read from its rows are these spans
-  pub found_spans : (found : List StoredSpan) → ((shown : List SpanRow) → rows ≡ map span_shown shown → found ≡ map span_of shown) → IsPermutation (map span_of (filter p all)) found
-  found_spans found reads =
+  pub found_spans : (found : List StoredSpan) → AreMade span_shown (λ s. s) span_of rows found
+      → IsPermutation (map span_of (filter p all)) found
+  found_spans found made =
       let passed = filter p all in
       let shown = pull_back span_shown _ _ shows_spans passed refl in
-      subst (IsPermutation (map span_of passed)) (sym (reads shown.0 shown.2)) (IsPermutation-map span_of passed shown.0 shown.1)
+      subst (IsPermutation (map span_of passed)) (sym (spans_made rows found made shown.0 shown.2)) (IsPermutation-map span_of passed shown.0 shown.1)
 
 -- ---- INSERTs
 

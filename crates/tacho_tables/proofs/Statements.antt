@@ -1,5 +1,5 @@
 -- The statements that the SQL texts on rows are.
-use Rattle.std.proofs.Common.{◌≡◌, ℕ, List, [], ◌∷◌, ◌++◌, ◌+◌, codes, false, true, refl, pos, Err}
+use Rattle.std.proofs.Common.{◌≡◌, ℕ, Bool, List, [], ◌∷◌, ◌++◌, ◌+◌, Option, Some, None, Result, Ok, Err, ap, codes, false, map, true, refl, pos}
 use Rattle.sqlite.specs.declared.types.Value.TheVariants.{Null, Int}
 use Rattle.sqlite.specs.Command.{Command}
 use Rattle.sqlite.specs.Schema.{Schema}
@@ -13,32 +13,76 @@ use Rattle.sqlite_value.specs.declared.keys.Key.{Key}
 use Rattle.sqlite_tied.specs.Compute.{everything}
 use Rattle.sqlite.specs.Listing.{understood, reads_listing, listing_schema}
 use Rattle.sqlite.proofs.Callers.{IsPlain, command_of}
+use Rattle.sqlite_schema.specs.declared.command.Returning.{Returning}
+use Rattle.sqlite_resolve.specs.declared.compiled.Compiled.{Compiled}
+use Rattle.sqlite_resolve.specs.declared.error.CompileError.{CompileError}
 use Rattle.sqlite_resolve.specs.declared.error.CompileError.TheVariants.{NoSuchTable}
-use Rattle.tacho_tables.specs.Schema.{Layout, Made, Carried, archive_schema, old_schema, no_schema, entry_tree}
+use Rattle.tacho_tables.specs.Schema.{Layout, layouts, archive_schema, old_schema, no_schema, entry_tree}
 use Rattle.tacho_tables.specs.declared.spans.SpanTable.{SpanTable}
 use Rattle.tacho_tables.specs.declared.spans.SpanTable.TheVariants.{CardSpans, Held}
 use Rattle.tacho_tables.specs.Spans.{span_table_rows, before_text, begun_text, insert_text, eight_text}
 use Rattle.tacho_tables.proofs.Answers.{simple, first_of}
+use Rattle.tacho_tables.proofs.Layouts.{each}
 use Rattle.tacho_tables.proofs.Places.{place_of, entry_place}
 
--- under the schema the text is this statement, and uses no clock
+-- under the schema the text is this command, uses no clock, and doesn't read the list of tables
 pub record IsStatement (schema : Schema) (text : List ℕ) (command : Command) : Type 0 where
   pub meant : command_of (understood schema text) ≡ command
-  pub plain : IsPlain (understood schema text)
-
--- under the schema the text shows these columns of the rows of one table that pass these tests
-pub record IsReading (schema : Schema) (text : List ℕ) (tree : ℕ) (tests shown : List Term) (order : List (Term × Key))
-    (names : List (List ℕ)) : Type 0 where
-  pub meant : command_of (understood schema text) ≡ Select (record { lets = []; body = simple tree tests shown order }) names
   pub unlisted : reads_listing schema text ≡ false
   pub plain : IsPlain (understood schema text)
 
--- likewise, but only for the first of these rows
-pub record IsReadingFirst (schema : Schema) (text : List ℕ) (tree : ℕ) (tests shown : List Term) (order : List (Term × Key))
-    (names : List (List ℕ)) : Type 0 where
-  pub meant : command_of (understood schema text) ≡ Select (record { lets = []; body = first_of tree tests shown order }) names
-  pub unlisted : reads_listing schema text ≡ false
-  pub plain : IsPlain (understood schema text)
+-- it shows these columns of the rows of one table that pass these tests
+abbrev pub IsReading : Schema → List ℕ → ℕ → List Term → List Term → List (Term × Key) → List (List ℕ) → Type 0
+IsReading schema text tree tests shown order names =
+    IsStatement schema text (Select (record { lets = []; body = simple tree tests shown order }) names)
+
+-- likewise, but only of the first of these rows
+abbrev pub IsReadingFirst : Schema → List ℕ → ℕ → List Term → List Term → List (Term × Key) → List (List ℕ) → Type 0
+IsReadingFirst schema text tree tests shown order names =
+    IsStatement schema text (Select (record { lets = []; body = first_of tree tests shown order }) names)
+
+abbrev returned : Result Compiled CompileError → Option (Option Returning)
+returned (Ok c) = Some c.returning
+returned (Err fault) = None
+
+abbrev formatted : Result Compiled CompileError → Option (List (List ℕ))
+formatted (Ok c) = Some c.formats
+formatted (Err fault) = None
+
+-- what a text is under a schema: its command, whether it reads the list of tables, and what it returns and formats
+record Meaning : Type 0 where
+  command : Command
+  listed : Bool
+  returning : Option (Option Returning)
+  formats : Option (List (List ℕ))
+
+abbrev meaning : List ℕ → Schema → Meaning
+meaning text schema = record {
+  command = command_of (understood schema text);
+  listed = reads_listing schema text;
+  returning = returned (understood schema text);
+  formats = formatted (understood schema text);
+}
+
+-- a plain one returns and formats nothing
+abbrev plainly : Command → Meaning
+plainly command = record { command = command; listed = false; returning = Some None; formats = Some [] }
+
+is_plain : (r : Result Compiled CompileError) → returned r ≡ Some None → formatted r ≡ Some [] → IsPlain r
+is_plain (Ok c) e f = (cc, cc)
+is_plain (Err fault) e f = cc
+
+-- what a text is under each layout
+pub stated : (text : List ℕ) (command : Layout → Command)
+    → map (λ layout. meaning text (archive_schema layout)) layouts ≡ map (λ layout. plainly (command layout)) layouts
+    → (layout : Layout) → IsStatement (archive_schema layout) text (command layout)
+stated text command same layout =
+    let is = each (λ l. meaning text (archive_schema l)) (λ l. plainly (command l)) same layout in
+    record {
+      meant = ap (λ (m : Meaning). m.command) is;
+      unlisted = ap (λ (m : Meaning). m.listed) is;
+      plain = is_plain (understood (archive_schema layout) text) (ap (λ (m : Meaning). m.returning) is) (ap (λ (m : Meaning). m.formats) is);
+    }
 
 -- ---- terms
 
@@ -91,8 +135,7 @@ first_row = op2 (Compare Eq Binary) (col 1 0) (lit (Int (pos 1))) ∷ []
 -- the reading that it is under schema 2
 pub version_is : (layout : Layout) → IsReading (archive_schema layout) version_text 0 first_row (col 1 2 ∷ []) [] (codes "version" ∷ [])
 unfolding understood everything
-version_is Made = record { meant = refl; unlisted = refl; plain = (refl, refl) }
-version_is Carried = record { meant = refl; unlisted = refl; plain = (refl, refl) }
+version_is = stated _ _ refl
 
 -- it is the same reading under schema 1
 pub version_was : IsReading old_schema version_text 0 first_row (col 1 2 ∷ []) [] (codes "version" ∷ [])
@@ -107,13 +150,11 @@ version_is_unknown = refl
 -- ---- the tables of spans
 
 -- the statement that adds a span
-pub insert_is : (layout : Layout) (table : SpanTable)
+pub insert_is : (table : SpanTable) (layout : Layout)
     → IsStatement (archive_schema layout) (insert_text table) (Insert (place_of table) (Values four 5))
 unfolding understood everything
-insert_is Made CardSpans = record { meant = refl; plain = (refl, refl) }
-insert_is Carried CardSpans = record { meant = refl; plain = (refl, refl) }
-insert_is Made Held = record { meant = refl; plain = (refl, refl) }
-insert_is Carried Held = record { meant = refl; plain = (refl, refl) }
+insert_is CardSpans = stated _ _ refl
+insert_is Held = stated _ _ refl
 
 -- a span of driver ?1 whose other columns are the parameters from a place on; the store gives the row's number
 abbrev pub span_at : ℕ → List Term
@@ -124,31 +165,25 @@ abbrev pub eight : List Term
 eight = span_at 1 ++ (span_at 4 ++ (span_at 7 ++ (span_at 10 ++ (span_at 13 ++ (span_at 16 ++ (span_at 19 ++ span_at 22))))))
 
 -- the statement that adds eight spans
-pub eight_is : (layout : Layout) (table : SpanTable)
+pub eight_is : (table : SpanTable) (layout : Layout)
     → IsStatement (archive_schema layout) (eight_text table) (Insert (place_of table) (Values eight 5))
 unfolding understood everything
-eight_is Made CardSpans = record { meant = refl; plain = (refl, refl) }
-eight_is Carried CardSpans = record { meant = refl; plain = (refl, refl) }
-eight_is Made Held = record { meant = refl; plain = (refl, refl) }
-eight_is Carried Held = record { meant = refl; plain = (refl, refl) }
+eight_is CardSpans = stated _ _ refl
+eight_is Held = stated _ _ refl
 
 -- the reading of the latest span that begins before a minute
-pub before_is : (layout : Layout) (table : SpanTable)
+pub before_is : (table : SpanTable) (layout : Layout)
     → IsReadingFirst (archive_schema layout) (before_text table) (span_table_rows table) before three_shown by_start_down span_names
 unfolding understood everything
-before_is Made CardSpans = record { meant = refl; unlisted = refl; plain = (refl, refl) }
-before_is Carried CardSpans = record { meant = refl; unlisted = refl; plain = (refl, refl) }
-before_is Made Held = record { meant = refl; unlisted = refl; plain = (refl, refl) }
-before_is Carried Held = record { meant = refl; unlisted = refl; plain = (refl, refl) }
+before_is CardSpans = stated _ _ refl
+before_is Held = stated _ _ refl
 
 -- the reading of the spans that begin in a range
-pub begun_is : (layout : Layout) (table : SpanTable)
+pub begun_is : (table : SpanTable) (layout : Layout)
     → IsReading (archive_schema layout) (begun_text table) (span_table_rows table) begun three_shown by_start span_names
 unfolding understood everything
-begun_is Made CardSpans = record { meant = refl; unlisted = refl; plain = (refl, refl) }
-begun_is Carried CardSpans = record { meant = refl; unlisted = refl; plain = (refl, refl) }
-begun_is Made Held = record { meant = refl; unlisted = refl; plain = (refl, refl) }
-begun_is Carried Held = record { meant = refl; unlisted = refl; plain = (refl, refl) }
+begun_is CardSpans = stated _ _ refl
+begun_is Held = stated _ _ refl
 
 -- ---- held
 
@@ -159,8 +194,7 @@ held_own_text = codes "SELECT start, past, mark FROM held WHERE driver = ?1 ORDE
 -- the reading that it is
 pub held_own_is : (layout : Layout) → IsReading (archive_schema layout) held_own_text 10 own three_shown by_start span_names
 unfolding understood everything
-held_own_is Made = record { meant = refl; unlisted = refl; plain = (refl, refl) }
-held_own_is Carried = record { meant = refl; unlisted = refl; plain = (refl, refl) }
+held_own_is = stated _ _ refl
 
 -- the SQL that removes the spans that begin in a range
 abbrev pub held_delete_text : List ℕ
@@ -170,8 +204,7 @@ held_delete_text = codes "DELETE FROM held WHERE driver = ?1 AND ?2 <= start AND
 pub held_delete_is : (layout : Layout)
     → IsStatement (archive_schema layout) held_delete_text (Delete 5 (record { lets = []; body = simple 10 begun (col 1 0 ∷ []) [] }))
 unfolding understood everything
-held_delete_is Made = record { meant = refl; plain = (refl, refl) }
-held_delete_is Carried = record { meant = refl; plain = (refl, refl) }
+held_delete_is = stated _ _ refl
 
 -- ---- downloads
 
@@ -186,15 +219,13 @@ file_text = codes "SELECT part, file FROM downloads WHERE driver = ?1 AND number
 -- the statement that `download_insert_text` is
 pub download_insert_is : (layout : Layout) → IsStatement (archive_schema layout) download_insert_text (Insert 2 (Values four 5))
 unfolding understood everything
-download_insert_is Made = record { meant = refl; plain = (refl, refl) }
-download_insert_is Carried = record { meant = refl; plain = (refl, refl) }
+download_insert_is = stated _ _ refl
 
 -- the reading that `file_text` is
 pub file_is : (layout : Layout) → IsReading (archive_schema layout) file_text 4 numbered (col 1 3 ∷ col 1 4 ∷ []) []
     (codes "part" ∷ codes "file" ∷ [])
 unfolding understood everything
-file_is Made = record { meant = refl; unlisted = refl; plain = (refl, refl) }
-file_is Carried = record { meant = refl; unlisted = refl; plain = (refl, refl) }
+file_is = stated _ _ refl
 
 -- ---- drivers
 
@@ -265,8 +296,7 @@ with_count_shown = col 1 0 ∷ col 1 0 ∷ lit Null ∷ col 1 2 ∷ col 1 3 ∷ 
 -- the statement that `driver_insert_text` is
 pub driver_insert_is : (layout : Layout) → IsStatement (archive_schema layout) driver_insert_text (Insert 1 (Values driver_values 8))
 unfolding understood everything
-driver_insert_is Made = record { meant = refl; plain = (refl, refl) }
-driver_insert_is Carried = record { meant = refl; plain = (refl, refl) }
+driver_insert_is = stated _ _ refl
 
 -- the columns driver, holder, base, name, downloads and entries
 abbrev pub six_shown : List Term
@@ -283,63 +313,54 @@ by_driver = (col 1 0, record { collation = Binary; descending = false }) ∷ []
 -- a reading by number
 pub by_number_is : (layout : Layout) → IsReading (archive_schema layout) by_number_text 1 (column_is 0) six_shown [] driver_names
 unfolding understood everything
-by_number_is Made = record { meant = refl; unlisted = refl; plain = (refl, refl) }
-by_number_is Carried = record { meant = refl; unlisted = refl; plain = (refl, refl) }
+by_number_is = stated _ _ refl
 
 -- a reading of all
 pub drivers_is : (layout : Layout) → IsReading (archive_schema layout) drivers_text 1 [] six_shown by_driver driver_names
 unfolding understood everything
-drivers_is Made = record { meant = refl; unlisted = refl; plain = (refl, refl) }
-drivers_is Carried = record { meant = refl; unlisted = refl; plain = (refl, refl) }
+drivers_is = stated _ _ refl
 
 -- a reading of the key
 pub secret_is : (layout : Layout)
     → IsReading (archive_schema layout) secret_text 1 (column_is 0) (col 1 3 ∷ []) [] (codes "secret" ∷ [])
 unfolding understood everything
-secret_is Made = record { meant = refl; unlisted = refl; plain = (refl, refl) }
-secret_is Carried = record { meant = refl; unlisted = refl; plain = (refl, refl) }
+secret_is = stated _ _ refl
 
 -- a reading by key
 pub by_secret_is : (layout : Layout)
     → IsReading (archive_schema layout) by_secret_text 1 (column_is 3) (col 1 0 ∷ []) [] (codes "driver" ∷ [])
 unfolding understood everything
-by_secret_is Made = record { meant = refl; unlisted = refl; plain = (refl, refl) }
-by_secret_is Carried = record { meant = refl; unlisted = refl; plain = (refl, refl) }
+by_secret_is = stated _ _ refl
 
 -- a reading by holder
 pub by_holder_is : (layout : Layout)
     → IsReading (archive_schema layout) by_holder_text 1 (column_is 2) (col 1 0 ∷ []) [] (codes "driver" ∷ [])
 unfolding understood everything
-by_holder_is Made = record { meant = refl; unlisted = refl; plain = (refl, refl) }
-by_holder_is Carried = record { meant = refl; unlisted = refl; plain = (refl, refl) }
+by_holder_is = stated _ _ refl
 
 -- a change of the base
 pub base_is : (layout : Layout)
     → IsStatement (archive_schema layout) base_text (Update 1 (record { lets = []; body = simple 1 (column_is 0) with_base_shown [] }))
 unfolding understood everything
-base_is Made = record { meant = refl; plain = (refl, refl) }
-base_is Carried = record { meant = refl; plain = (refl, refl) }
+base_is = stated _ _ refl
 
 -- a change of the key
 pub key_is : (layout : Layout)
     → IsStatement (archive_schema layout) key_text (Update 1 (record { lets = []; body = simple 1 (column_is 0) with_key_shown [] }))
 unfolding understood everything
-key_is Made = record { meant = refl; plain = (refl, refl) }
-key_is Carried = record { meant = refl; plain = (refl, refl) }
+key_is = stated _ _ refl
 
 -- a change of the name
 pub name_is : (layout : Layout)
     → IsStatement (archive_schema layout) name_text (Update 1 (record { lets = []; body = simple 1 (column_is 0) with_name_shown [] }))
 unfolding understood everything
-name_is Made = record { meant = refl; plain = (refl, refl) }
-name_is Carried = record { meant = refl; plain = (refl, refl) }
+name_is = stated _ _ refl
 
 -- a change of the count
 pub count_is : (layout : Layout)
     → IsStatement (archive_schema layout) count_text (Update 1 (record { lets = []; body = simple 1 (column_is 0) with_count_shown [] }))
 unfolding understood everything
-count_is Made = record { meant = refl; plain = (refl, refl) }
-count_is Carried = record { meant = refl; plain = (refl, refl) }
+count_is = stated _ _ refl
 
 -- the row of a driver with entry count ?2, after its old number
 abbrev pub with_entry_count_shown : List Term
@@ -354,8 +375,7 @@ pub entry_count_is : (layout : Layout)
     → IsStatement (archive_schema layout) entry_count_text
     (Update 1 (record { lets = []; body = simple 1 (column_is 0) with_entry_count_shown [] }))
 unfolding understood everything
-entry_count_is Made = record { meant = refl; plain = (refl, refl) }
-entry_count_is Carried = record { meant = refl; plain = (refl, refl) }
+entry_count_is = stated _ _ refl
 
 -- ---- entries
 
@@ -373,8 +393,7 @@ entry_insert_text =
 pub entry_insert_is : (layout : Layout)
     → IsStatement (archive_schema layout) entry_insert_text (Insert (entry_place layout) (Values (entry_at 1) 9))
 unfolding understood everything
-entry_insert_is Made = record { meant = refl; plain = (refl, refl) }
-entry_insert_is Carried = record { meant = refl; plain = (refl, refl) }
+entry_insert_is = stated _ _ refl
 
 -- four entries
 abbrev pub four_entries : List Term
@@ -389,8 +408,7 @@ four_entries_text =
 pub four_entries_are : (layout : Layout)
     → IsStatement (archive_schema layout) four_entries_text (Insert (entry_place layout) (Values four_entries 9))
 unfolding understood everything
-four_entries_are Made = record { meant = refl; plain = (refl, refl) }
-four_entries_are Carried = record { meant = refl; plain = (refl, refl) }
+four_entries_are = stated _ _ refl
 
 -- a row that is to be withdrawn: its old number, its new number, and its new columns
 abbrev pub withdrawn_shown : List Term
@@ -405,8 +423,7 @@ pub withdraw_is : (layout : Layout)
     → IsStatement (archive_schema layout) withdraw_text
     (Update (entry_place layout) (record { lets = []; body = simple (entry_tree layout) numbered withdrawn_shown [] }))
 unfolding understood everything
-withdraw_is Made = record { meant = refl; plain = (refl, refl) }
-withdraw_is Carried = record { meant = refl; plain = (refl, refl) }
+withdraw_is = stated _ _ refl
 
 -- the columns number, start, past, mark, withdrawn, author and note
 abbrev pub seven_shown : List Term
@@ -423,8 +440,7 @@ entry_text = codes "SELECT number, start, past, mark, withdrawn, author, note FR
 -- the reading that it is
 pub entry_is : (layout : Layout) → IsReading (archive_schema layout) entry_text (entry_tree layout) numbered seven_shown [] entry_names
 unfolding understood everything
-entry_is Made = record { meant = refl; unlisted = refl; plain = (refl, refl) }
-entry_is Carried = record { meant = refl; unlisted = refl; plain = (refl, refl) }
+entry_is = stated _ _ refl
 
 -- order: the lower number first
 abbrev pub by_number : List (Term × Key)
@@ -438,8 +454,7 @@ entries_text = codes "SELECT number, start, past, mark, withdrawn, author, note 
 pub entries_is : (layout : Layout)
     → IsReading (archive_schema layout) entries_text (entry_tree layout) own seven_shown by_number entry_names
 unfolding understood everything
-entries_is Made = record { meant = refl; unlisted = refl; plain = (refl, refl) }
-entries_is Carried = record { meant = refl; unlisted = refl; plain = (refl, refl) }
+entries_is = stated _ _ refl
 
 -- tests: an entry of driver ?1 that isn't withdrawn and has a minute from ?2 to before ?3
 abbrev pub kept_near : List Term
@@ -463,5 +478,4 @@ kept_near_text =
 pub kept_near_is : (layout : Layout)
     → IsReading (archive_schema layout) kept_near_text (entry_tree layout) kept_near entry_span_shown by_entry_start span_names
 unfolding understood everything
-kept_near_is Made = record { meant = refl; unlisted = refl; plain = (refl, refl) }
-kept_near_is Carried = record { meant = refl; unlisted = refl; plain = (refl, refl) }
+kept_near_is = stated _ _ refl

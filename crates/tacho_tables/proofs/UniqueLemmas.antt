@@ -22,9 +22,11 @@ use Rattle.sqlite_catalog.specs.Listing.{IsSound, automatic}
 use Rattle.sqlite_rules.specs.Lists.{Has}
 use Rattle.sqlite_rules.proofs.ListLemmas.{all_has, test_has, some_from, has_got}
 use Rattle.sqlite_trees.specs.Tree.{Trees}
-use Rattle.tacho_tables.specs.Schema.{Layout, Made, Carried, archive_schema, need, entry_tree}
+use Rattle.tacho_tables.specs.Schema.{Layout, archive_schema, need, entry_tree}
 use Rattle.tacho_tables.specs.Schema as made
 use Rattle.tacho_tables.specs.Rows.{DriverRow, driver_row}
+use Rattle.tacho_tables.proofs.Layouts.{each}
+pub use Rattle.tacho_tables.proofs.Places.{drivers_at, downloads_at, card_spans_at, held_at, entry_place, entries_at}
 
 -- ---- a NOT NULL column of integers
 
@@ -61,33 +63,7 @@ module _ (layout : Layout) (db : Trees) (sound : IsSound (archive_schema layout)
       (subst₂ (λ (k : Option ℕ) (cs : List Column). are_typed k 0 cs (drop 1 r) ≡ true) key columns
       (and_parts (are_typed table.key 0 table.columns (drop 1 r)) (has_computed table r) both).0)
 
--- ---- the tables of the schema
-
-pub drivers_at : (layout : Layout) → slice_get (archive_schema layout).tables 1 ≡ Some (record made.drivers { tree = 1 })
-drivers_at Made = refl
-drivers_at Carried = refl
-
-pub downloads_at : (layout : Layout) → slice_get (archive_schema layout).tables 2 ≡ Some (record made.downloads { tree = 4 })
-downloads_at Made = refl
-downloads_at Carried = refl
-
-pub card_spans_at : (layout : Layout) → slice_get (archive_schema layout).tables 3 ≡ Some
-    (record (made.spans (codes "card_spans")) { tree = 6 })
-card_spans_at Made = refl
-card_spans_at Carried = refl
-
-pub held_at : (layout : Layout) → slice_get (archive_schema layout).tables 5 ≡ Some (record (made.spans (codes "held")) { tree = 10 })
-held_at Made = refl
-held_at Carried = refl
-
-abbrev pub entry_place : Layout → ℕ
-entry_place Made = 4
-entry_place Carried = 6
-
-pub entries_at : (layout : Layout) → slice_get (archive_schema layout).tables (entry_place layout) ≡ Some
-    (record made.entry_rows { tree = entry_tree layout })
-entries_at Made = refl
-entries_at Carried = refl
+-- ---- the drivers' numbers
 
 -- the driver's number of a stored row, in each table whose rows have hidden numbers
 abbrev pub HasDriver : List Row → Type 0
@@ -117,12 +93,10 @@ abbrev key_index : Index
 key_index = automatic (record made.drivers { tree = 1 }) 1 (3 ∷ []) 3
 
 holder_at : (layout : Layout) → slice_get (archive_schema layout).indexes 0 ≡ Some holder_index
-holder_at Made = refl
-holder_at Carried = refl
+holder_at = each _ _ refl
 
 key_at : (layout : Layout) → slice_get (archive_schema layout).indexes 1 ≡ Some key_index
-key_at Made = refl
-key_at Carried = refl
+key_at = each _ _ refl
 
 test_is : (b : Bool) → is_true (from_truth (Some b)) ≡ b
 test_is true = refl

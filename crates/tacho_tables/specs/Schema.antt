@@ -160,6 +160,10 @@ pub data Layout : Type 0 where
   Made : Layout
   Carried : Layout
 
+-- all layouts
+abbrev pub layouts : List Layout
+layouts = Made ∷ Carried ∷ []
+
 -- the schema of an archive
 abbrev pub archive_schema : Layout → Schema
 archive_schema Made = created (created with_card_spans entry_rows) (spans (codes "held"))

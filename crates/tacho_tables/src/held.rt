@@ -8,8 +8,8 @@ ghost use Rattle.tacho_tables.specs.Next.{IsAsked, BeginsOnward};
 ghost use Rattle.tacho_tables.specs.Tables.{is_begun, is_of, span_of};
 
 use crate::fault::TableFault;
-use crate::rows::{StoredSpan, stored_spans};
-use crate::statement::{read, run};
+use crate::rows::{StoredSpan, all};
+use crate::statement::run;
 use sqlite::{Alter, Connection, Error, Rows, Transaction, params};
 use std::alloc::Global;
 
@@ -22,12 +22,12 @@ pub fn of_driver<S: Alter>(
     ensures { Finds S.Store tx.old.conn tx.new.conn result
         (λ a found. IsPermutation (map span_of (filter (is_of driver) a.held)) found.items) }
 {
-    let rows = read(
+    all(
+        alloc,
         tx,
         "SELECT start, past, mark FROM held WHERE driver = ?1 ORDER BY start",
         params![driver],
-    )?;
-    stored_spans(alloc, &rows)
+    )
 }
 
 /// Removes the spans of a driver that begin from `start` to before `past`.

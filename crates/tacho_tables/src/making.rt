@@ -9,8 +9,8 @@ ghost use Rattle.tacho_tables.specs.Making.{AreEmpty, Copies, IsCreate, HasMade,
 ghost use Rattle.tacho_tables.specs.Tables.{HasTables, IsArchive, Carries, no_rows};
 
 use crate::fault::TableFault;
-use crate::rows::first_number;
-use crate::statement::{read, run};
+use crate::rows::first;
+use crate::statement::run;
 use sqlite::{Alter, Transaction};
 
 /// Makes one table.
@@ -139,6 +139,5 @@ pub fn version<S: Alter>(tx: &mut Transaction<'_, S>) -> Result<Option<u32>, Tab
     ensures missing { HasCleanDisk (state S.Store tx.new.conn.now)
         → (state S.Store tx.old.conn.now).now.schema ≡ no_schema → IsErr result }
 {
-    let rows = read(tx, "SELECT version FROM meta WHERE id = 1", &[])?;
-    first_number(&rows)
+    first(tx, "SELECT version FROM meta WHERE id = 1", &[])
 }

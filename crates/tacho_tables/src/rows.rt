@@ -1,14 +1,15 @@
-ghost use Rattle.std.specs.Prelude.{◌≡◌, ◌∷◌, [], ℕ, pos, List, map, false, IfOk, OnOk, IfSome, IsNone, ◌↔◌, string_bytes};
+ghost use Rattle.std.specs.Prelude.{◌≡◌, IfOk};
 ghost use Rattle.sqlite.specs.Held.{state};
-ghost use Rattle.sqlite.specs.State.{HasCleanDisk, IsUnchanged, Survives};
-ghost use Rattle.sqlite.specs.declared.types.Value.TheVariants.{Int, Text};
+ghost use Rattle.sqlite.specs.State.{HasCleanDisk, IsUnchanged};
 ghost use Rattle.sqlite.specs.Order.{Row as Values};
-ghost use Rattle.tacho_tables.specs.Rows.{SpanRow, DownloadRow, EntryRow, DriverRow};
-ghost use Rattle.tacho_tables.specs.Tables.{span_of, span_shown, told_entry, listed_entry, entry_shown, file_shown, driver_shown, listed_driver, told_driver};
+ghost use Rattle.sqlite.specs.Values.{bound};
+ghost use Rattle.tacho_tables.specs.Calls.{ReadsText, IsFirst, AreMade};
 ghost use Rattle.tacho_tables.specs.Next.{Tells, GivesNext, IsAsked};
 
 use crate::fault::TableFault;
-use sqlite::{Alter, Row, Rows};
+use crate::statement::read;
+use sqlite::{Alter, Row, Rows, Transaction};
+use sqlite_value::value::ValueRef;
 use std::alloc::Global;
 
 /// Minutes from `start` to before `past`, and the number of the driver's mark in them.
@@ -54,6 +55,26 @@ pub struct StoredDriver {
     pub entries: u32,
 }
 
+/// A value that is made of a row that a reading shows.
+pub(crate) trait FromRow: Sized {
+    /// What the row shows.
+    ghost Shown: { Type 0 };
+
+    /// The row's columns.
+    ghost columns: { Shown → Values };
+
+    /// What the value and what the row shows have in common.
+    ghost Told: { Type 0 };
+
+    ghost told: { Self → Told };
+
+    ghost meant: { Shown → Told };
+
+    /// Returns the value of a row.
+    fn from_row(row: &Row) -> Result<Self, TableFault>
+        ensures { IfOk result (λ it. (x : Shown) → row.now ≡ columns x → told it ≡ meant x) };
+}
+
 /// Returns the span of a row whose first columns are start, past and mark.
 fn told_span(row: &Row) -> Result<StoredSpan, TableFault>
     ensures { IfOk result (λ s. Tells row.now s) }
@@ -63,13 +84,6 @@ fn told_span(row: &Row) -> Result<StoredSpan, TableFault>
         past: row.get(1)?,
         mark: row.get(2)?,
     })
-}
-
-/// Returns the span of a row of start, past and mark.
-fn stored_span(row: &Row) -> Result<StoredSpan, TableFault>
-    ensures { IfOk result (λ s. (r : SpanRow) → row.now ≡ span_shown r → s ≡ span_of r) }
-{
-    told_span(row)
 }
 
 /// Moves to the next row of a query on start, past and mark, and returns its span, if there is one.
@@ -88,150 +102,178 @@ pub fn next_span<S: Alter>(rows: &mut Rows<'_, S>) -> Result<Option<StoredSpan>,
     Ok(Some(span))
 }
 
-/// Returns the span of the first row of start, past and mark, if there is one.
-pub(crate) fn first_span(rows: &[Row]) -> Result<Option<StoredSpan>, TableFault>
-    ensures none { IfOk result (λ found. IsNone found ↔ (rows.now ≡ [])) }
-    ensures some { IfOk result (λ found. IfSome found (λ s. (r : SpanRow) (more : List Values)
-        → rows.now ≡ span_shown r ∷ more → s ≡ span_of r)) }
+/// Runs a reading, and returns the value of its first row, if there is one.
+pub(crate) fn first<S: Alter, T: FromRow + Drop>(
+    tx: &mut Transaction<'_, S>,
+    sql: &str,
+    values: &[ValueRef<'_>],
+) -> Result<Option<T>, TableFault>
+    ensures { ReadsText S.Store tx.old.conn tx.new.conn result sql.now (bound values.now) (IsFirst T.columns T.told T.meant) }
 {
-    match rows.first() {
-        None => Ok(None),
-        Some(row) => Ok(Some(stored_span(row)?)),
-    }
+    let rows = read(tx, sql, values)?;
+    let Some(row) = rows.first() else {
+        return Ok(None);
+    };
+    Ok(Some(T::from_row(row)?))
 }
 
-/// Returns the spans of rows of start, past and mark.
-pub(crate) fn stored_spans(alloc: Global, rows: &[Row]) -> Result<Vec<StoredSpan>, TableFault>
-    ensures { IfOk result (λ spans. (shown : List SpanRow) → rows.now ≡ map span_shown shown
-        → spans.items ≡ map span_of shown) }
+/// Runs a reading, and returns the values of its rows.
+pub(crate) fn all<S: Alter, T: FromRow + Drop>(
+    alloc: Global,
+    tx: &mut Transaction<'_, S>,
+    sql: &str,
+    values: &[ValueRef<'_>],
+) -> Result<Vec<T>, TableFault>
+    ensures { ReadsText S.Store tx.old.conn tx.new.conn result sql.now (bound values.now)
+        (λ rows found. AreMade T.columns T.told T.meant rows found.items) }
 {
-    let mut spans = Vec::new(alloc);
+    let rows = read(tx, sql, values)?;
+    made(alloc, &rows)
+}
+
+/// Returns the values of rows.
+fn made<T: FromRow + Drop>(alloc: Global, rows: &[Row]) -> Result<Vec<T>, TableFault>
+    ensures { IfOk result (λ found. AreMade T.columns T.told T.meant rows.now found.items) }
+{
+    let mut found = Vec::new(alloc);
     for row in rows {
-        spans.push(stored_span(row)?)?;
+        found.push(T::from_row(row)?)?;
     }
-    Ok(spans)
+    Ok(found)
 }
 
-/// Returns the file of a row of part and file.
-fn stored_file(row: &Row) -> Result<StoredFile, TableFault>
-    ensures { IfOk result (λ it. (r : DownloadRow) → row.now ≡ file_shown r
-        → (it.part ≡ r.part) × (it.file.items ≡ r.file)) }
-{
-    Ok(StoredFile {
-        part: row.get(0)?,
-        file: row.get(1)?,
-    })
-}
+impl FromRow for StoredSpan {
+    ghost use Rattle.tacho_tables.specs.Rows.{SpanRow};
+    ghost use Rattle.tacho_tables.specs.declared.rows.StoredSpan.{StoredSpan as Span};
+    ghost use Rattle.tacho_tables.specs.Tables.{span_of, span_shown};
 
-/// Returns the file of the first such row, if there is one.
-pub(crate) fn first_file(rows: &[Row]) -> Result<Option<StoredFile>, TableFault>
-    ensures none { IfOk result (λ found. IsNone found ↔ (rows.now ≡ [])) }
-    ensures some { IfOk result (λ found. IfSome found (λ it. (r : DownloadRow) (more : List Values)
-        → rows.now ≡ file_shown r ∷ more → (it.part ≡ r.part) × (it.file.items ≡ r.file))) }
-{
-    match rows.first() {
-        None => Ok(None),
-        Some(row) => Ok(Some(stored_file(row)?)),
+    ghost Shown = { SpanRow };
+
+    ghost columns = { span_shown };
+
+    ghost Told = { Span };
+
+    ghost told = { λ s. s };
+
+    ghost meant = { span_of };
+
+    fn from_row(row: &Row) -> Result<StoredSpan, TableFault> {
+        told_span(row)
     }
 }
 
-/// Returns the number in the first row, if there is one.
-pub(crate) fn first_number(rows: &[Row]) -> Result<Option<u32>, TableFault>
-    ensures none { IfOk result (λ found. IsNone found ↔ (rows.now ≡ [])) }
-    ensures some { IfOk result (λ found. IfSome found (λ number. (n : ℕ) (more : List Values)
-        → rows.now ≡ (Int (pos n) ∷ []) ∷ more → number ≡ n)) }
-{
-    match rows.first() {
-        None => Ok(None),
-        Some(row) => Ok(Some(row.get(0)?)),
+impl FromRow for StoredFile {
+    ghost use Rattle.std.specs.Prelude.{ℕ, List};
+    ghost use Rattle.tacho_tables.specs.Rows.{DownloadRow};
+    ghost use Rattle.tacho_tables.specs.Tables.{file_shown};
+
+    ghost Shown = { DownloadRow };
+
+    ghost columns = { file_shown };
+
+    ghost Told = { ℕ × List ℕ };
+
+    ghost told = { λ it. (it.part, it.file.items) };
+
+    ghost meant = { λ r. (r.part, r.file) };
+
+    fn from_row(row: &Row) -> Result<StoredFile, TableFault> {
+        Ok(StoredFile {
+            part: row.get(0)?,
+            file: row.get(1)?,
+        })
     }
 }
 
-/// Returns the text in the first row, if there is one.
-pub(crate) fn first_text(rows: &[Row]) -> Result<Option<String>, TableFault>
-    ensures none { IfOk result (λ found. IsNone found ↔ (rows.now ≡ [])) }
-    ensures some { IfOk result (λ found. IfSome found (λ text. (t : List ℕ) (more : List Values)
-        → rows.now ≡ (Text t ∷ []) ∷ more → string_bytes text ≡ t)) }
-{
-    match rows.first() {
-        None => Ok(None),
-        Some(row) => Ok(Some(row.get(0)?)),
+/// A number alone.
+impl FromRow for u32 {
+    ghost use Rattle.std.specs.Prelude.{ℕ, pos, [], ◌∷◌};
+    ghost use Rattle.sqlite.specs.declared.types.Value.TheVariants.{Int};
+
+    ghost Shown = { ℕ };
+
+    ghost columns = { λ n. Int (pos n) ∷ [] };
+
+    ghost Told = { ℕ };
+
+    ghost told = { λ n. n };
+
+    ghost meant = { λ n. n };
+
+    fn from_row(row: &Row) -> Result<u32, TableFault> {
+        Ok(row.get(0)?)
     }
 }
 
-/// Returns the driver of a row of driver, holder, base, name, downloads and entries.
-fn stored_driver(row: &Row) -> Result<StoredDriver, TableFault>
-    ensures { IfOk result (λ d. (r : DriverRow) → row.now ≡ driver_shown r → told_driver d ≡ listed_driver r) }
-{
-    Ok(StoredDriver {
-        number: row.get(0)?,
-        holder: row.get(1)?,
-        base: row.get(2)?,
-        name: row.get(3)?,
-        downloads: row.get(4)?,
-        entries: row.get(5)?,
-    })
-}
+/// A text alone.
+impl FromRow for String {
+    ghost use Rattle.std.specs.Prelude.{ℕ, List, [], ◌∷◌, string_bytes};
+    ghost use Rattle.sqlite.specs.declared.types.Value.TheVariants.{Text};
 
-/// Returns the driver of the first such row, if there is one.
-pub(crate) fn first_driver(rows: &[Row]) -> Result<Option<StoredDriver>, TableFault>
-    ensures none { IfOk result (λ found. IsNone found ↔ (rows.now ≡ [])) }
-    ensures some { IfOk result (λ found. IfSome found (λ d. (r : DriverRow) (more : List Values)
-        → rows.now ≡ driver_shown r ∷ more → told_driver d ≡ listed_driver r)) }
-{
-    match rows.first() {
-        None => Ok(None),
-        Some(row) => Ok(Some(stored_driver(row)?)),
+    ghost Shown = { List ℕ };
+
+    ghost columns = { λ t. Text t ∷ [] };
+
+    ghost Told = { List ℕ };
+
+    ghost told = { λ text. string_bytes text };
+
+    ghost meant = { λ t. t };
+
+    fn from_row(row: &Row) -> Result<String, TableFault> {
+        Ok(row.get(0)?)
     }
 }
 
-/// Returns the drivers of such rows.
-pub(crate) fn stored_drivers(alloc: Global, rows: &[Row]) -> Result<Vec<StoredDriver>, TableFault>
-    ensures { IfOk result (λ drivers. (shown : List DriverRow) → rows.now ≡ map driver_shown shown
-        → map told_driver drivers.items ≡ map listed_driver shown) }
-{
-    let mut drivers = Vec::new(alloc);
-    for row in rows {
-        drivers.push(stored_driver(row)?)?;
+impl FromRow for StoredDriver {
+    ghost use Rattle.tacho_tables.specs.Rows.{DriverRow};
+    ghost use Rattle.tacho_tables.specs.Tables.{ListedDriver, driver_shown, listed_driver, told_driver};
+
+    ghost Shown = { DriverRow };
+
+    ghost columns = { driver_shown };
+
+    ghost Told = { ListedDriver };
+
+    ghost told = { told_driver };
+
+    ghost meant = { listed_driver };
+
+    fn from_row(row: &Row) -> Result<StoredDriver, TableFault> {
+        Ok(StoredDriver {
+            number: row.get(0)?,
+            holder: row.get(1)?,
+            base: row.get(2)?,
+            name: row.get(3)?,
+            downloads: row.get(4)?,
+            entries: row.get(5)?,
+        })
     }
-    Ok(drivers)
 }
 
-/// Returns the entry of a row of number, start, past, mark, withdrawn, author and note.
-fn stored_entry(row: &Row) -> Result<StoredEntry, TableFault>
-    ensures { IfOk result (λ e. (r : EntryRow) → row.now ≡ entry_shown r → told_entry e ≡ listed_entry r) }
-{
-    Ok(StoredEntry {
-        number: row.get(0)?,
-        start: row.get(1)?,
-        past: row.get(2)?,
-        mark: row.get(3)?,
-        withdrawn: row.get(4)?,
-        author: row.get(5)?,
-        note: row.get(6)?,
-    })
-}
+impl FromRow for StoredEntry {
+    ghost use Rattle.tacho_tables.specs.Rows.{EntryRow};
+    ghost use Rattle.tacho_tables.specs.Tables.{ListedEntry, entry_shown, listed_entry, told_entry};
 
-/// Returns the entries of such rows.
-pub(crate) fn stored_entries(alloc: Global, rows: &[Row]) -> Result<Vec<StoredEntry>, TableFault>
-    ensures { IfOk result (λ entries. (shown : List EntryRow) → rows.now ≡ map entry_shown shown
-        → map told_entry entries.items ≡ map listed_entry shown) }
-{
-    let mut entries = Vec::new(alloc);
-    for row in rows {
-        entries.push(stored_entry(row)?)?;
-    }
-    Ok(entries)
-}
+    ghost Shown = { EntryRow };
 
-/// Returns the entry of the first such row, if there is one.
-pub(crate) fn first_entry(rows: &[Row]) -> Result<Option<StoredEntry>, TableFault>
-    ensures none { IfOk result (λ found. IsNone found ↔ (rows.now ≡ [])) }
-    ensures some { IfOk result (λ found. IfSome found (λ e. (r : EntryRow) (more : List Values)
-        → rows.now ≡ entry_shown r ∷ more → told_entry e ≡ listed_entry r)) }
-{
-    match rows.first() {
-        None => Ok(None),
-        Some(row) => Ok(Some(stored_entry(row)?)),
+    ghost columns = { entry_shown };
+
+    ghost Told = { ListedEntry };
+
+    ghost told = { told_entry };
+
+    ghost meant = { listed_entry };
+
+    fn from_row(row: &Row) -> Result<StoredEntry, TableFault> {
+        Ok(StoredEntry {
+            number: row.get(0)?,
+            start: row.get(1)?,
+            past: row.get(2)?,
+            mark: row.get(3)?,
+            withdrawn: row.get(4)?,
+            author: row.get(5)?,
+            note: row.get(6)?,
+        })
     }
 }

@@ -7,8 +7,8 @@ ghost use Rattle.tacho_tables.specs.Tables.{IsLatest, is_before, is_begun, row_o
 ghost use Rattle.tacho_tables.specs.Spans.{spans_in, with_span_rows, before_text, begun_text, insert_text, eight_text};
 
 use crate::fault::TableFault;
-use crate::rows::{StoredSpan, first_span, stored_spans};
-use crate::statement::{read, run};
+use crate::rows::{StoredSpan, all, first};
+use crate::statement::run;
 use sqlite::{Alter, Transaction, params};
 use std::alloc::Global;
 
@@ -90,8 +90,7 @@ pub fn last_before<S: Alter>(
         (λ a found. MatchOption found (filter (is_before driver minute) (spans_in table a) ≡ []) (λ span. (r : SpanRow)
         × IsLatest r (filter (is_before driver minute) (spans_in table a)) × (span ≡ span_of r))) }
 {
-    let rows = read(tx, table.before_text(), params![driver, minute])?;
-    first_span(&rows)
+    first(tx, table.before_text(), params![driver, minute])
 }
 
 /// Reads the spans of a driver that begin from `start` to before `past`.
@@ -106,8 +105,7 @@ pub fn begun<S: Alter>(
     ensures { Finds S.Store tx.old.conn tx.new.conn result
         (λ a found. IsPermutation (map span_of (filter (is_begun driver start past) (spans_in table a))) found.items) }
 {
-    let rows = read(tx, table.begun_text(), params![driver, start, past])?;
-    stored_spans(alloc, &rows)
+    all(alloc, tx, table.begun_text(), params![driver, start, past])
 }
 
 /// Adds a span to a driver.

@@ -18,7 +18,7 @@ returns g c = record {
       let new = state g.S.Store c.run.new.tx.conn.now in
       let row = row_of c.args.driver c.args.span.now in
       on_ok_weaker c.run.result (λ ran. adds_spans (span_table table) (insert_text table) four (span_columns row) (row ∷ []) old new
-      ran.0 is (λ layout. insert_is layout table) refl ran.1)
+      ran.0 is (insert_is table) refl ran.1)
       (rw (c.insert_text.ensures, c.params-to_sql.ensures, c.params-to_sql-2.ensures, c.params-to_sql-3.ensures, c.params-to_sql-4.ensures) at
       (c.run.ensures.ran clean));
 }

@@ -25,7 +25,7 @@ returns g c = record {
       (sym (by_places none 8 c.args.spans.now c.told-spans))
       (adds_spans (span_table table) (eight_text table) eight
       (Int (pos driver) ∷ flat_map span_values spans) (map (row_of driver) spans) old new
-      ran.0 is (λ layout. eight_is layout table) refl ran.1))
+      ran.0 is (eight_is table) refl ran.1))
       (rw (c.params-to_sql-14.ensures, c.params-to_sql-15.ensures, c.params-to_sql-16.ensures, c.params-to_sql-17.ensures, c.params-to_sql-18.ensures, c.params-to_sql-19.ensures, c.params-to_sql-20.ensures, c.params-to_sql-21.ensures, c.params-to_sql-22.ensures, c.params-to_sql-23.ensures, c.params-to_sql-24.ensures, c.params-to_sql-25.ensures) at
       (rw (c.eight_text.ensures, c.params-to_sql.ensures, c.params-to_sql-2.ensures, c.params-to_sql-3.ensures, c.params-to_sql-4.ensures, c.params-to_sql-5.ensures, c.params-to_sql-6.ensures, c.params-to_sql-7.ensures, c.params-to_sql-8.ensures, c.params-to_sql-9.ensures, c.params-to_sql-10.ensures, c.params-to_sql-11.ensures, c.params-to_sql-12.ensures, c.params-to_sql-13.ensures) at
       (c.run.ensures.ran clean)));
