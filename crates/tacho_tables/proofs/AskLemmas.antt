@@ -17,7 +17,7 @@ use Rattle.sqlite_trees.proofs.ListLemmas.{map-map, filter-map, filter_same}
 use Rattle.sqlite_sql.specs.declared.ops.BinaryOp.TheVariants.{Compare}
 use Rattle.sqlite_sql.specs.declared.ops.CompareOp.TheVariants.{Eq}
 use Rattle.sqlite_sql.specs.Ops.{binary, is_true, from_truth}
-use Rattle.sqlite_sql.specs.Term.{Term, col, eval_all}
+use Rattle.sqlite_sql.specs.Term.{Term, eval_all}
 use Rattle.sqlite_rules.proofs.ListLemmas.{all_from, has_filtered}
 use Rattle.tacho_tables.specs.Schema.{Layout, Made, Carried, archive_schema, entry_tree}
 use Rattle.tacho_tables.specs.Readable.{is_number, is_own, own_rows, AreNumbered}

@@ -1,5 +1,5 @@
 -- Consecutive calls within a transaction.
-use Rattle.std.proofs.Common.{◌≡◌, ◌∙◌, ℕ, Err, List, Ok, OnOk, Result, subst, sym}
+use Rattle.std.proofs.Common.{◌∙◌, ℕ, Err, List, Ok, OnOk, Result, subst, sym}
 use Rattle.std.specs.Borrow.{MutBor}
 use Rattle.std.proofs.lemmas.Result.{IfOk-weaker, on_ok_weaker}
 use Rattle.sqlite.specs.Effect.{Database}
@@ -7,13 +7,13 @@ use Rattle.sqlite.specs.Given.{IsPlain}
 use Rattle.sqlite.specs.Listing.{understood}
 use Rattle.sqlite.specs.Schema.{Schema}
 use Rattle.sqlite.specs.Order.{Row}
-use Rattle.sqlite.specs.State.{Shown}
+use Rattle.sqlite.specs.State.{Executes, Shown}
 use Rattle.sqlite.specs.Store.{Ghosts}
 use Rattle.sqlite.specs.Held.{Held, state}
 use Rattle.sqlite.proofs.StateLemmas.{survives_then}
 use Rattle.tacho_tables.specs.Schema.{Layout, archive_schema}
-use Rattle.tacho_tables.specs.Tables.{Tables, HasTables, IsArchive}
-use Rattle.tacho_tables.specs.Calls.{Stays, ReadsOf, ReadsText, Changes, Finds}
+use Rattle.tacho_tables.specs.Tables.{Tables, HasTables, IsArchive, Turns}
+use Rattle.tacho_tables.specs.Calls.{Stays, ReadsOf, ReadsText, RunsText, Changes, Finds}
 use Rattle.tacho_tables.proofs.Inside.{keeps_then}
 
 module _ {S : Type 0} {g : Ghosts S} {a b c : MutBor (Held S)} where
@@ -68,3 +68,14 @@ module _ {S : Type 0} {g : Ghosts S} {a b : MutBor (Held S)} {A E : Type 0} {r :
     reads = reads_known (plain_in text plain);
     found = λ clean is. IfOk-weaker r _ _ (λ answer was t stands. found is was.0 was.1 t stands answer was.2) (it.told clean);
   }
+
+-- a write that changes the tables of an archive so
+pub changes : {S : Type 0} {g : Ghosts S} {a b : MutBor (Held S)} {A E : Type 0} {r : Result A E} {text : List ℕ} {params : Row}
+    → RunsText g a b r text params → {step : Tables → Tables}
+    → (IsArchive (state g a.now).now → (count : ℕ) → Executes text params (state g a.now) (state g b.now) (Ok count)
+    → Turns (state g a.now) (state g b.now) step) → Changes g a b r step
+changes {r = r} it turned = record {
+  stays = it.stays;
+  keeps = it.keeps;
+  turned = λ clean is. on_ok_weaker r (λ ran. turned is ran.0 ran.1) (it.ran clean);
+}

@@ -1,13 +1,12 @@
 -- A catalog lists one schema only.
-use Rattle.std.proofs.Common.{◌≡◌, ap, arith, false, length, refl, subst, true}
+use Rattle.std.proofs.Common.{◌≡◌, ap, arith, false, length, refl, true}
 use Rattle.sqlite.specs.Effect.{Database, IsDatabase}
 use Rattle.sqlite.specs.Schema.{Schema}
 use Rattle.sqlite.specs.Tree.{Trees}
 use Rattle.sqlite_catalog.specs.Listing.{IsSound}
 use Rattle.sqlite_catalog.proofs.ReadLemmas.{lists_once}
 use Rattle.sqlite_schema.specs.Names.{same_name}
-use Rattle.tacho_tables.specs.Schema.{Layout, Made, Carried, archive_schema, old_schema, entry_tree, has_archive_tables}
-use Rattle.tacho_tables.specs.Rows.{AreRowsOf, entry_columns}
+use Rattle.tacho_tables.specs.Schema.{Layout, Made, Carried, archive_schema, old_schema, has_archive_tables}
 use Rattle.tacho_tables.specs.Tables.{Tables, HasTables, OldTables, HasOldTables, IsArchive}
 
 -- different layouts have different schemas
@@ -34,11 +33,6 @@ one_layout db a b it other = one_schema a b (lists_once _ (archive_schema a) (ar
 -- the layout of a database's rows is that of its schema
 pub layout_is : (d : Database) (a : Tables) (is : IsArchive d) (s : HasTables d.trees a) → s.layout ≡ is.layout
 layout_is d a is s = one_layout d.trees s.layout is.layout s.sound is.sound
-
--- so the entries are in the table in which its schema has them
-pub entries_stand : (d : Database) (a : Tables) (is : IsArchive d) → HasTables d.trees a
-    → AreRowsOf entry_columns (d.trees (entry_tree is.layout)) a.entries
-entries_stand d a is s = subst (λ layout. AreRowsOf entry_columns (d.trees (entry_tree layout)) a.entries) (layout_is d a is s) s.entries
 
 -- a database whose rows represent the tables of an archive is an archive
 pub is_archive : (d : Database) (a : Tables) → HasTables d.trees a → IsDatabase d → IsArchive d

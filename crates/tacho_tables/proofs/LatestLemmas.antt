@@ -1,5 +1,5 @@
 -- The latest span that begins before a minute.
-use Rattle.std.proofs.Common.{◌≡◌, ◌∙◌, ℕ, suc, pos, ◌≤◌, ◌↔◌, Ordering, Less, Equal, Greater, List, [], ◌∷◌, map, filter, take, false, Option, Some, None, refl, sym, ap, subst, arith, add-one}
+use Rattle.std.proofs.Common.{◌≡◌, ◌∙◌, ℕ, suc, pos, ◌≤◌, Ordering, Less, Equal, Greater, List, [], ◌∷◌, map, filter, take, false, Option, Some, None, refl, sym, ap, subst, arith, add-one}
 use Rattle.std.specs.Prelude.{nat_lt, MatchOption}
 use Rattle.std.specs.List.{AllByRecursion}
 use Rattle.std.specs.List.Sorted.{IsPermutation, IsSorted, IsSortedBy}

@@ -20,8 +20,8 @@ use Rattle.tacho_tables.specs.Rows.{EntryRow, entry_columns}
 use Rattle.tacho_tables.specs.declared.rows.StoredEntry.{StoredEntry}
 use Rattle.tacho_tables.specs.Tables.{Tables, HasTables, IsArchive, ListedEntry, is_entry_of, entry_shown, listed_entry, told_entry}
 use Rattle.tacho_tables.proofs.Answers.{simple, passes, listed}
-use Rattle.tacho_tables.proofs.CatalogLemmas.{entries_stand}
-use Rattle.tacho_tables.proofs.EntryLemmas.{own_test}
+use Rattle.tacho_tables.proofs.TableLemmas.{stands_in}
+use Rattle.tacho_tables.proofs.EntryLemmas.{entry_table, own_test}
 use Rattle.tacho_tables.proofs.SpanLemmas.{none_given}
 use Rattle.tacho_tables.proofs.Statements.{own, seven_shown, by_number, entries_text, entries_is}
 use Rattle.tacho_tables.proofs.Stored.{shown_of}
@@ -83,7 +83,7 @@ shows_sorted driver old new rows is h a s =
     let it = entries_is is.layout in
     let got = reads_as entries_text params old new (archive_schema is.layout) is.schema _ it.meant it.plain it.unlisted rows h in
     let l = listed tree own seven_shown by_number (overlay db []) params rows (got.answer Null) in
-    let passed = shown_of entry_columns (db tree) a.entries (entries_stand old.now a is s) (passes own params) (is_entry_of driver)
+    let passed = shown_of entry_columns (db tree) a.entries (stands_in entry_table old.now is a s) (passes own params) (is_entry_of driver)
     (own_test driver) out shown_as (λ v x. refl) in
     let same = IsPermutation-trans _ _ _ passed (rw (none_given db tree) at l.same) in
     let back = pull_back shown_as _ l.all same (filter (is_entry_of driver) a.entries) refl in (

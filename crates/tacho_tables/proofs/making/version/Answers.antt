@@ -1,5 +1,4 @@
 use Rattle.std.proofs.lemmas.Result.{IfOk-weaker}
-use Rattle.sqlite.specs.Held.{state}
 use Rattle.tacho_tables.proofs.CallLemmas.{reads_known}
 use Rattle.tacho_tables.proofs.Inside.{unknown_shows}
 use Rattle.tacho_tables.proofs.MakingLemmas.{none_shown, version_reads, shows_version, shows_no_version, first_is, first_is_none}
