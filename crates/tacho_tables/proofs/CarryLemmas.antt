@@ -24,7 +24,7 @@ use Rattle.sqlite_schema.specs.declared.schema.Keys.TheVariants.{Enforced}
 use Rattle.sqlite_trees.proofs.ListLemmas.{pull_back}
 use Rattle.sqlite_value.specs.declared.keys.Collation.{Collation}
 use Rattle.sqlite_value.specs.declared.keys.Collation.TheVariants.{Binary}
-use Rattle.tacho_tables.specs.Schema.{Carried, archive_schema, entry_rows, old_schema, to_driver}
+use Rattle.tacho_tables.specs.Schema.{Carried, archive_schema, current_version, entry_rows, old_schema, old_version, to_driver}
 use Rattle.tacho_tables.specs.Schema as made
 use Rattle.tacho_tables.specs.Rows.{AreNumberedRowsOf, AreRowsOf, OldEntryRow, by_office}
 use Rattle.tacho_tables.specs.Rows.{download_columns, entry_columns, old_entry_columns, span_columns}
@@ -74,11 +74,11 @@ clear_is = record { meant = refl; unlisted = refl; plain = (refl, refl) }
 
 -- the SQL that sets the version
 abbrev pub version_set_text : List ℕ
-version_set_text = codes "UPDATE meta SET version = 2 WHERE id = 1"
+version_set_text = codes "UPDATE meta SET version = ?1 WHERE id = 1"
 
--- the row of `meta` with version 2, after its old number
+-- the row of `meta` with version ?1, after its old number
 abbrev pub with_version_shown : List Term
-with_version_shown = col 1 0 ∷ col 1 0 ∷ lit Null ∷ lit (Int (pos 2)) ∷ []
+with_version_shown = col 1 0 ∷ col 1 0 ∷ lit Null ∷ col 0 0 ∷ []
 
 -- the statement that `version_set_text` is
 pub version_set_is : IsStatement (archive_schema Carried) version_set_text
@@ -215,25 +215,27 @@ abbrev version_row : ℕ → Row
 version_row version = Int (pos 1) ∷ Null ∷ Int (pos version) ∷ []
 
 -- the row that is put for the one row that the query shows
-version_put : (rows found : List Row) → rows ≡ version_row 1 ∷ [] → found ≡ (Int (pos 1) ∷ version_row 2) ∷ []
+version_put : (rows found : List Row) → rows ≡ version_row old_version ∷ []
+    → found ≡ (Int (pos 1) ∷ version_row current_version) ∷ []
     → put_all (without_all rows (ids_of found))
     (numbered Given (without_all rows (ids_of found)) (map (λ s. cast_row made.meta (drop 1 s)) found))
-    ≡ version_row 2 ∷ []
-version_put rows found is shown = rw (is, shown, own_id (pos 1), cast_int (pos 1), cast_null, cast_int (pos 2)) refl
+    ≡ version_row current_version ∷ []
+version_put rows found is shown = rw (is, shown, own_id (pos 1), cast_int (pos 1), cast_null, cast_int (pos current_version)) refl
 
--- the UPDATE sets version 2 where the row of `meta` had version 1
-pub sets_version : (old new : State) (count : ℕ) → old.now.schema ≡ archive_schema Carried → Executes version_set_text [] old new (Ok count)
-    → Leaves 0 old.now new.now × (IsVersion 1 old.now.trees → IsVersion 2 new.now.trees)
+-- the UPDATE sets the current version where the row of `meta` had the old one
+pub sets_version : (old new : State) (count : ℕ) → old.now.schema ≡ archive_schema Carried → Executes version_set_text (Int (pos current_version) ∷ []) old new (Ok count)
+    → Leaves 0 old.now new.now × (IsVersion old_version old.now.trees → IsVersion current_version new.now.trees)
 sets_version old new count has h =
     let db = old.now.trees in
+    let params = Int (pos current_version) ∷ [] in
     let t = made.meta in
-    let e = updated (archive_schema Carried) old new has version_set_text version_set_is.plain [] count 0 (codes "meta") 0 t.columns
+    let e = updated (archive_schema Carried) old new has version_set_text version_set_is.plain params count 0 (codes "meta") 0 t.columns
     (Some 0) (0 ∷ []) [] [] [] [] refl (idle Carried 0) _ version_set_is.meant h in
-    let l = listed 0 first_row with_version_shown [] (overlay db []) [] e.0 (e.1.answer Null) in (
+    let l = listed 0 first_row with_version_shown [] (overlay db []) params e.0 (e.1.answer Null) in (
       leaves old new e.2,
       λ is.
-          let found = one_permutation (Int (pos 1) ∷ version_row 2) e.0
-          (rw (none_given db 0, is, eq_test 1 1) at (shows 0 first_row with_version_shown [] (overlay db []) [] e.0 l)) in
+          let found = one_permutation (Int (pos 1) ∷ version_row current_version) e.0
+          (rw (none_given db 0, is, eq_test 1 1) at (shows 0 first_row with_version_shown [] (overlay db []) params e.0 l)) in
           ap (λ (d : Database). d.trees 0) e.2.now_is ∙ e.2.applies.rows ∙ version_put (db 0) e.0 is found,
     )
 
@@ -243,7 +245,7 @@ sets_version old new count has h =
 pub carries : (first made copied cleared last : State) → HasMade old_schema entry_rows first made → Copies made.now copied.now
     → Leaves 8 copied.now cleared.now
     × ((entries : List OldEntryRow) → AreRowsOf old_entry_columns (copied.now.trees 8) entries → cleared.now.trees 8 ≡ [])
-    → Leaves 0 cleared.now last.now × (IsVersion 1 cleared.now.trees → IsVersion 2 last.now.trees) → Carries first.now last.now
+    → Leaves 0 cleared.now last.now × (IsVersion old_version cleared.now.trees → IsVersion current_version last.now.trees) → Carries first.now last.now
 carries first made copied cleared last one two three four = record {
   schema = record { layout = Carried; schema = four.0.schema; sound = four.0.sound };
   stands = λ a s. record {

@@ -3,7 +3,7 @@ use Rattle.std.proofs.Common.{◌≡◌, ◌≢◌, ◌∙◌, ℕ, List, arith,
 use Rattle.std.specs.List.{AllByRecursion}
 use Rattle.sqlite.specs.Tree.{Trees}
 use Rattle.sqlite_catalog.specs.Listing.{IsSound}
-use Rattle.tacho_tables.specs.Schema.{Layout, Made, Carried, archive_schema, entry_tree}
+use Rattle.tacho_tables.specs.Schema.{Layout, Made, Carried, archive_schema, current_version, entry_tree}
 use Rattle.tacho_tables.specs.Rows.{AreRowsOf, AreNumberedRowsOf, SpanRow, DownloadRow, EntryRow, DriverRow, span_columns, download_columns, entry_columns}
 use Rattle.tacho_tables.specs.Tables.{Tables, HasTables, HasNoOldEntries, IsVersion}
 
@@ -68,7 +68,7 @@ module _ (layout : Layout) (db next : Trees) (a : Tables) (sound : IsSound (arch
     kept = each_kept layout tree db next all
 
     -- the version stays
-    meta_stays : 0 ≢ tree → IsVersion 2 next
+    meta_stays : 0 ≢ tree → IsVersion current_version next
     meta_stays other = kept.meta other ∙ s.meta
 
     -- the drivers stay

@@ -9,7 +9,7 @@ use Rattle.sqlite.specs.Source.TheVariants.{Values}
 use Rattle.sqlite.specs.Term.{Term, lit, col}
 use Rattle.sqlite_tied.specs.Compute.{everything}
 use Rattle.sqlite.specs.Listing.{understood}
-use Rattle.tacho_tables.specs.Schema.{Made, archive_schema}
+use Rattle.tacho_tables.specs.Schema.{Made, archive_schema, current_version}
 use Rattle.tacho_tables.specs.Schema as made
 use Rattle.tacho_tables.specs.Rows.{AreRowsOf, AreNumberedRowsOf, span_columns, download_columns, entry_columns}
 use Rattle.tacho_tables.specs.Tables.{HasTables, IsArchive, IsVersion, no_rows}
@@ -63,15 +63,15 @@ makes schema table text old new count has it h shown =
 
 -- the text that adds it
 abbrev pub meta_row_text : List ℕ
-meta_row_text = codes "INSERT INTO meta (id, version) VALUES (1, 2)"
+meta_row_text = codes "INSERT INTO meta (id, version) VALUES (1, ?1)"
 
 -- its values
 abbrev meta_values : List Term
-meta_values = lit (Int (pos 1)) ∷ lit Null ∷ lit (Int (pos 2)) ∷ []
+meta_values = lit (Int (pos 1)) ∷ lit Null ∷ col 0 0 ∷ []
 
 -- the row
 abbrev meta_row : Row
-meta_row = Int (pos 1) ∷ Null ∷ Int (pos 2) ∷ []
+meta_row = Int (pos 1) ∷ Null ∷ Int (pos current_version) ∷ []
 
 -- the statement that `meta_row_text` is
 meta_row_is : IsStatement (archive_schema Made) meta_row_text (Insert 0 (Values meta_values 3))
@@ -90,13 +90,13 @@ no_driver_stands rows none = subst (λ rs. AreNumberedRowsOf rs []) (sym none)
 
 -- with the row in `meta`, the six empty tables are an archive without drivers
 pub makes_archive : (old new : State) (count : ℕ) → old.now.schema ≡ archive_schema Made
-    → AreEmpty (0 ∷ 1 ∷ 4 ∷ 6 ∷ 8 ∷ 10 ∷ []) old.now.trees → Executes meta_row_text [] old new (Ok count)
+    → AreEmpty (0 ∷ 1 ∷ 4 ∷ 6 ∷ 8 ∷ 10 ∷ []) old.now.trees → Executes meta_row_text (Int (pos current_version) ∷ []) old new (Ok count)
     → IsArchive new.now × HasTables new.now.trees no_rows
 makes_archive old new count has none h =
     let t = made.meta in
-    let e = inserted (archive_schema Made) old new has meta_row_text meta_row_is.plain [] count 0 (codes "meta") 0 t.columns (Some 0)
+    let e = inserted (archive_schema Made) old new has meta_row_text meta_row_is.plain (Int (pos current_version) ∷ []) count 0 (codes "meta") 0 t.columns (Some 0)
     (0 ∷ []) [] [] [] [] refl (idle Made 0) meta_values 3 meta_row_is.meant (meta_row ∷ []) refl h in
-    let stored = rw (cast_int (pos 1), cast_int (pos 2), cast_null, none.0) at e.applies.rows in
+    let stored = rw (cast_int (pos 1), cast_int (pos current_version), cast_null, none.0) at e.applies.rows in
     let kept = e.applies.tables in
     let trees : new.now.trees ≡ e.next = ap (λ (d : Database). d.trees) e.now_is in (
       record {

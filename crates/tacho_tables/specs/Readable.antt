@@ -7,7 +7,7 @@ use Rattle.sqlite.specs.Order.{Row, column}
 use Rattle.sqlite.specs.Tree.{Trees, rowid}
 use Rattle.sqlite_rules.specs.Lists.{Has}
 use Rattle.sqlite_catalog.specs.Listing.{IsSound}
-use Rattle.tacho_tables.specs.Schema.{Layout, archive_schema, entry_tree}
+use Rattle.tacho_tables.specs.Schema.{Layout, archive_schema, current_version, entry_tree}
 use Rattle.tacho_tables.specs.Schema as tree
 use Rattle.tacho_tables.specs.Tables.{IsVersion, HasNoOldEntries}
 use Rattle.tacho_tables.specs.declared.table.TableName.{TableName}
@@ -66,6 +66,6 @@ pub record AreAllNumbered (layout : Layout) (db : Trees) : Type 0 where
 -- empty.
 pub record IsReadable (layout : Layout) (db : Trees) : Type 0 where
   pub sound : IsSound (archive_schema layout) db
-  pub meta : IsVersion 2 db
+  pub meta : IsVersion current_version db
   pub old_entries : HasNoOldEntries layout db
   pub numbered : AreAllNumbered layout db

@@ -154,6 +154,13 @@ with_card_spans = created with_downloads (spans (codes "card_spans"))
 abbrev pub old_schema : Schema
 old_schema = created (created with_card_spans entries) (spans (codes "held"))
 
+-- the version of the schema that an archive has, and the one from which archives are migrated
+abbrev pub current_version : ℕ
+current_version = 2
+
+abbrev pub old_version : ℕ
+old_version = 1
+
 -- how an archive of schema 2 came to be: it was made so, or it was carried over from schema 1. The latter keeps an empty table `entries`,
 -- which has no meaning.
 pub data Layout : Type 0 where

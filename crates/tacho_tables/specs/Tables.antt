@@ -12,7 +12,7 @@ use Rattle.tacho_tables.specs.declared.rows.StoredSpan.{StoredSpan}
 use Rattle.tacho_tables.specs.declared.rows.StoredDriver.{StoredDriver}
 use Rattle.tacho_tables.specs.declared.rows.StoredEntry.{StoredEntry}
 use Rattle.tacho_tables.specs.declared.entries.NewEntry.{NewEntry}
-use Rattle.tacho_tables.specs.Schema.{Layout, Made, Carried, archive_schema, old_schema, entry_tree, old_entry_tree}
+use Rattle.tacho_tables.specs.Schema.{Layout, Made, Carried, archive_schema, current_version, old_schema, old_version, entry_tree, old_entry_tree}
 use Rattle.tacho_tables.specs.Schema as tree
 use Rattle.tacho_tables.specs.Rows.{AreRowsOf, SpanRow, span_columns, DownloadRow, download_columns, EntryRow, entry_columns, OldEntryRow, old_entry_columns, by_office, DriverRow, AreNumberedRowsOf}
 
@@ -42,7 +42,7 @@ HasNoOldEntries Carried db = db old_entry_tree ≡ []
 pub record HasTables (db : Trees) (a : Tables) : Type 0 where
   pub layout : Layout
   pub sound : IsSound (archive_schema layout) db
-  pub meta : IsVersion 2 db
+  pub meta : IsVersion current_version db
   pub drivers : AreNumberedRowsOf (db tree.driver_rows) a.drivers
   pub downloads : AreRowsOf download_columns (db tree.download_rows) a.downloads
   pub card_spans : AreRowsOf span_columns (db tree.card_span_rows) a.card_spans
@@ -62,7 +62,7 @@ pub record OldTables : Type 0 where
 -- the stored rows are a database of schema 1, and represent these lists
 pub record HasOldTables (db : Trees) (a : OldTables) : Type 0 where
   pub sound : IsSound old_schema db
-  pub meta : IsVersion 1 db
+  pub meta : IsVersion old_version db
   pub drivers : AreNumberedRowsOf (db tree.driver_rows) a.drivers
   pub downloads : AreRowsOf download_columns (db tree.download_rows) a.downloads
   pub card_spans : AreRowsOf span_columns (db tree.card_span_rows) a.card_spans

@@ -11,7 +11,13 @@ ghost use Rattle.tacho_tables.specs.Tables.{HasTables, IsArchive, Carries, no_ro
 use crate::fault::TableFault;
 use crate::rows::first;
 use crate::statement::run;
-use sqlite::{Alter, Transaction};
+use sqlite::{Alter, Transaction, params};
+
+/// The version of the schema that an archive has, after it was made or migrated.
+pub const CURRENT_VERSION: u32 = 2;
+
+/// The version of the schema from which archives are migrated.
+pub const OLD_VERSION: u32 = 1;
 
 /// Makes one table.
 fn make_table<S: Alter>(tx: &mut Transaction<'_, S>, text: &str) -> Result<(), TableFault>
@@ -96,7 +102,11 @@ pub fn make_all<S: Alter>(tx: &mut Transaction<'_, S>) -> Result<(), TableFault>
 {
     make_first(tx)?;
     make_rest(tx)?;
-    run(tx, "INSERT INTO meta (id, version) VALUES (1, 2)", &[])
+    run(
+        tx,
+        "INSERT INTO meta (id, version) VALUES (1, ?1)",
+        params![CURRENT_VERSION],
+    )
 }
 
 /// Copies each entry of schema 1.
@@ -127,7 +137,11 @@ pub fn carry<S: Alter>(tx: &mut Transaction<'_, S>) -> Result<(), TableFault>
     make_entry_rows(tx)?;
     copy_entries(tx)?;
     run(tx, "DELETE FROM entries", &[])?;
-    run(tx, "UPDATE meta SET version = 2 WHERE id = 1", &[])
+    run(
+        tx,
+        "UPDATE meta SET version = ?1 WHERE id = 1",
+        params![CURRENT_VERSION],
+    )
 }
 
 /// Reads the version of the tables' schema; none if its row is missing. In a store without tables it returns `TableFault::Store`.

@@ -21,4 +21,4 @@ returns-clause-carried g c clean schema =
     let three = clears copied cleared clear.0 two.schema clear.1 in
     on_ok_weaker c.run-2.result
     (λ ran. carries first made copied cleared last one two three (sets_version cleared last ran.0 three.0.schema ran.1))
-    (c.run-2.ensures.ran clean)
+    (rw c.params-to_sql.ensures at (c.run-2.ensures.ran clean))
