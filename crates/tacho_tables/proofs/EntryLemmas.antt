@@ -1,5 +1,7 @@
 -- The table `entry_rows`, and what an UPDATE of it does.
-use Rattle.std.proofs.Common.{◌≡◌, ℕ, pos, ◌==◌, [], ◌∷◌, map, codes, None, true, Ok, refl, sym, ap, subst, ◌∙◌, ◌&&◌, drop}
+use Rattle.std.proofs.Common.{◌≡◌, ℕ, pos, ◌==◌, List, [], ◌∷◌, map, codes, None, true, Ok, refl, sym, ap, subst, ◌∙◌, ◌&&◌, drop}
+use Rattle.std.specs.List.Sorted.{IsSorted}
+use Rattle.std.specs.Ordering.{is_lt, nat_cmp}
 use Rattle.std.specs.Prelude.{nat_lt}
 use Rattle.sqlite_rules.proofs.PlaceLemmas.{given}
 use Rattle.sqlite_rules.specs.Calls.{ids_of}
@@ -10,20 +12,23 @@ use Rattle.sqlite.specs.Order.{Row}
 use Rattle.sqlite.specs.Term.{eval_all}
 use Rattle.sqlite.specs.Edit.{without_all, put_all, are_fresh}
 use Rattle.sqlite.specs.Program.{overlay}
-use Rattle.sqlite.specs.State.{State, Executes}
+use Rattle.sqlite.specs.State.{State, Executes, Shown}
+use Rattle.sqlite.proofs.Callers.{reads_as}
 use Rattle.tacho_tables.specs.Schema.{archive_schema, entry_tree, to_driver}
 use Rattle.tacho_tables.specs.Schema as made
 use Rattle.tacho_tables.specs.Rows.{AreRowsOf, SpanRow, EntryRow, entry_columns}
 use Rattle.tacho_tables.specs.declared.entries.NewEntry.{NewEntry}
-use Rattle.tacho_tables.specs.Tables.{IsArchive, Turns, is_entry, is_entry_of, is_kept_near, with_withdrawn}
+use Rattle.tacho_tables.specs.declared.rows.StoredEntry.{StoredEntry}
+use Rattle.tacho_tables.specs.Tables.{Tables, HasTables, IsArchive, Turns, ListedEntry, entry_shown, is_entry, is_entry_of, is_kept_near, listed_entry, told_entry, with_withdrawn}
 use Rattle.tacho_tables.proofs.Answers.{and-true, none_given, passes, listed, shows, eq_test, lt_test}
 use Rattle.tacho_tables.proofs.Updates.{stands_updated}
 use Rattle.tacho_tables.proofs.Idle.{idle}
 use Rattle.tacho_tables.proofs.Kept.{with_entries}
 use Rattle.tacho_tables.proofs.Places.{entry_place, entries_at}
-use Rattle.tacho_tables.proofs.TableLemmas.{IsTable, stands_in}
+use Rattle.tacho_tables.proofs.SortedLemmas.{by_one_number, sorted_after, sorted_before}
+use Rattle.tacho_tables.proofs.TableLemmas.{IsTable, shows_sorted, stands_in}
 use Rattle.tacho_tables.proofs.TurnLemmas.{turns}
-use Rattle.tacho_tables.proofs.Statements.{own, numbered, withdrawn_shown, withdraw_text, withdraw_is, kept_near}
+use Rattle.tacho_tables.proofs.Statements.{by_number, entries_text, entries_is, own, numbered, seven_shown, withdrawn_shown, withdraw_text, withdraw_is, kept_near}
 use Rattle.tacho_tables.proofs.Writes.{updated, cast_null, cast_int}
 
 -- the values of a new entry, except its driver
@@ -123,3 +128,25 @@ withdraws old new driver number count is h =
 -- an entry's minutes as a row of spans
 abbrev pub entry_row_span : EntryRow → SpanRow
 entry_row_span x = record { driver = x.driver; start = x.start; past = x.past; mark = x.mark }
+
+-- all entries of a driver are read in the order of their numbers
+pub read_sorted : (driver : ℕ) (old new : State) (rows : List Row) (found : List StoredEntry) → IsArchive old.now
+    → Shown entries_text (Int (pos driver) ∷ []) old new rows → (a : Tables) → HasTables old.now.trees a
+    → ((shown : List EntryRow) → rows ≡ map entry_shown shown → map told_entry found ≡ map listed_entry shown)
+    → IsSorted (λ x y. nat_cmp x.number y.number) found
+read_sorted driver old new rows found is h a s reads =
+    let params = Int (pos driver) ∷ [] in
+    let it = entries_is is.layout in
+    let got = reads_as entries_text params old new (archive_schema is.layout) is.schema _ it.meant it.plain it.unlisted rows h in
+    let sorted = shows_sorted entry_table own seven_shown by_number params (is_entry_of driver) (own_test driver)
+    (λ x. (Int (pos x.number) ∷ [], entry_shown x)) (λ t v x. refl) (λ x y. is_lt (nat_cmp x.number y.number))
+    (λ t x y. by_one_number x.number y.number) (λ xs. xs) old.now.trees is.layout a.entries (stands_in entry_table old.now is a s) rows
+    (listed (entry_tree is.layout) own seven_shown by_number (overlay old.now.trees []) params rows (got.answer Null)) in
+    let listed = sorted_after listed_entry (λ x y. is_lt (nat_cmp x.number y.number)) (λ x y. is_lt (nat_cmp x.number y.number)) sorted.0
+    no_row (λ x y. refl) sorted.3 in
+    sorted_before told_entry (λ x y. is_lt (nat_cmp x.number y.number)) (λ x y. is_lt (nat_cmp x.number y.number)) found (λ x y. refl)
+    (subst (IsSorted (λ (x y : ListedEntry). nat_cmp x.number y.number)) (sym (reads sorted.0 sorted.1)) listed)
+  where
+    -- a default entry
+    no_row : EntryRow
+    no_row = record { driver = 0; number = 0; start = 0; past = 0; mark = 0; withdrawn = 0; author = []; note = [] }

@@ -1,49 +1,29 @@
 -- The latest span that begins before a minute.
-use Rattle.std.proofs.Common.{◌≡◌, ◌∙◌, ℕ, suc, pos, ◌≤◌, Ordering, Less, Equal, Greater, List, [], ◌∷◌, map, filter, take, false, Option, Some, None, refl, sym, ap, subst, arith, add-one}
+use Rattle.std.proofs.Common.{◌≡◌, ◌∙◌, ℕ, suc, pos, ◌≤◌, List, [], ◌∷◌, map, filter, take, false, Option, Some, None, refl, sym, arith, add-one}
 use Rattle.std.specs.Prelude.{nat_lt, MatchOption}
 use Rattle.std.specs.List.{AllByRecursion}
-use Rattle.std.specs.List.Sorted.{IsPermutation, IsSorted, IsSortedBy}
-use Rattle.std.specs.Ordering.{is_lt, int_cmp, ordering_then}
-use Rattle.std.proofs.lemmas.Int.{ints}
+use Rattle.std.specs.List.Sorted.{IsPermutation, IsSortedBy}
 use Rattle.std.proofs.lemmas.Bool.Decides.{nat_tests}
 use Rattle.std.proofs.lemmas.List.Elements.{All-from_recursion}
-use Rattle.std.proofs.lemmas.List.Sorted.{IsPermutation-trans, IsPermutation-sym, All-permutation, Contains-permutation}
+use Rattle.std.proofs.lemmas.List.Sorted.{IsPermutation-sym, All-permutation, Contains-permutation}
 use Rattle.sqlite.specs.declared.types.Value.TheVariants.{Null, Int}
-use Rattle.sqlite_value.specs.Order.{value_cmp}
-use Rattle.sqlite_value.proofs.OrderLemmas.{value_cmp-Int}
-use Rattle.sqlite_trees.proofs.ListLemmas.{pull_back, map-map}
-use Rattle.sqlite_sql.specs.Query.{Output, output, output_cmp}
 use Rattle.sqlite.specs.Order.{Row}
 use Rattle.sqlite.specs.Program.{overlay}
 use Rattle.sqlite.specs.State.{State, Shown}
 use Rattle.sqlite.proofs.Callers.{reads_as}
-use Rattle.tacho_tables.specs.Schema.{Layout, archive_schema}
-use Rattle.tacho_tables.specs.Rows.{AreRowsOf, SpanRow, span_columns}
+use Rattle.tacho_tables.specs.Schema.{archive_schema}
+use Rattle.tacho_tables.specs.Rows.{SpanRow}
 use Rattle.tacho_tables.specs.declared.rows.StoredSpan.{StoredSpan}
-use Rattle.tacho_tables.specs.Tables.{IsArchive, IsLatest, is_before, span_of, span_shown}
-use Rattle.tacho_tables.proofs.Answers.{simple, passes, listed_first}
+use Rattle.tacho_tables.specs.Tables.{Tables, HasTables, IsArchive, IsLatest, is_before, span_of, span_shown}
+use Rattle.tacho_tables.proofs.Answers.{listed_first}
 use Rattle.tacho_tables.specs.Calls.{IsFirst}
 use Rattle.tacho_tables.proofs.Reading.{head_is, none_of_none}
-use Rattle.tacho_tables.proofs.SpanLemmas.{tests_before, none_given}
-use Rattle.tacho_tables.proofs.SortedLemmas.{sorted_before}
-use Rattle.tacho_tables.proofs.Statements.{IsReadingFirst, before, three_shown, by_start_down, span_names}
-use Rattle.tacho_tables.proofs.Stored.{shown_of}
-
--- the key by which a span is sorted, and what it shows
-abbrev shown_as : SpanRow → Output
-shown_as x = (Int (pos x.start) ∷ [], span_shown x)
-
--- the later start comes first
-by_starts : (t : ℕ) (x y : SpanRow) → is_lt (output_cmp (simple t before three_shown by_start_down) (shown_as x) (shown_as y)) ≡ nat_lt y.start x.start
-by_starts t x y =
-    ap is_lt (then_equal (value_cmp (Int (pos y.start)) (Int (pos x.start))) ∙ value_cmp-Int (pos y.start) (pos x.start)) ∙ same y.start x.start where
-      then_equal : (o : Ordering) → ordering_then o Equal ≡ o
-      then_equal Less = refl
-      then_equal Equal = refl
-      then_equal Greater = refl
-
-      same : (a b : ℕ) → is_lt (int_cmp (pos a) (pos b)) ≡ nat_lt a b
-      same a b = grind (arith, ints)
+use Rattle.tacho_tables.specs.declared.spans.SpanTable.{SpanTable}
+use Rattle.tacho_tables.specs.Spans.{before_text, span_table_rows, spans_in}
+use Rattle.tacho_tables.proofs.SpanLemmas.{span_table, tests_before}
+use Rattle.tacho_tables.proofs.SortedLemmas.{by_one_minute}
+use Rattle.tacho_tables.proofs.Statements.{before, before_is, three_shown, by_start_down}
+use Rattle.tacho_tables.proofs.TableLemmas.{shows_sorted, stands_in}
 
 -- a weaker fact holds for each element too
 all_weaker : (P Q : SpanRow → Type 0) → ((x : SpanRow) → P x → Q x) → (rows : List SpanRow) → AllByRecursion P rows → AllByRecursion Q rows
@@ -83,24 +63,18 @@ found_in wanted (r ∷ to) (row ∷ rows) (Some s) moved sorted shown first =
     )
 
 -- a reading of the latest span that begins before a minute finds it
-pub finds_latest : (text : List ℕ) (tree : ℕ)
-    → ((layout : Layout) → IsReadingFirst (archive_schema layout) text tree before three_shown by_start_down span_names)
-    → (driver minute : ℕ) (old new : State) (rows : List Row) → IsArchive old.now
-    → Shown text (Int (pos driver) ∷ Int (pos minute) ∷ []) old new rows
-    → (all : List SpanRow) → AreRowsOf span_columns (old.now.trees tree) all → (found : Option StoredSpan)
-    → IsFirst span_shown (λ s. s) span_of rows found
-    → MatchOption found (filter (is_before driver minute) all ≡ []) (λ s. (r : SpanRow) × IsLatest r (filter (is_before driver minute) all) × (s ≡ span_of r))
-finds_latest text tree each driver minute old new rows is h all s found first =
-    let db = old.now.trees in
+pub finds_latest : (table : SpanTable) (driver minute : ℕ) (old new : State) (rows : List Row) → IsArchive old.now
+    → Shown (before_text table) (Int (pos driver) ∷ Int (pos minute) ∷ []) old new rows → (a : Tables) → HasTables old.now.trees a
+    → (found : Option StoredSpan) → IsFirst span_shown (λ s. s) span_of rows found
+    → MatchOption found (filter (is_before driver minute) (spans_in table a) ≡ [])
+    (λ s. (r : SpanRow) × IsLatest r (filter (is_before driver minute) (spans_in table a)) × (s ≡ span_of r))
+finds_latest table driver minute old new rows is h a s found first =
     let params = Int (pos driver) ∷ Int (pos minute) ∷ [] in
-    let q = simple tree before three_shown by_start_down in
-    let wanted = filter (is_before driver minute) all in
-    let it = each is.layout in
-    let got = reads_as text params old new (archive_schema is.layout) is.schema _ it.meant it.plain it.unlisted rows h in
-    let l = listed_first tree before three_shown by_start_down (overlay db []) params rows (got.answer Null) in
-    let passed = shown_of span_columns (db tree) all s (passes before params) (is_before driver minute) (tests_before driver minute) (λ (r : Row). output q (params ∷ r ∷ [])) shown_as (λ v x. refl) in
-    let same = IsPermutation-trans _ _ _ passed (rw (none_given db tree) at l.same) in
-    let back = pull_back shown_as _ l.all same wanted refl in
-    let sorted = sorted_before shown_as (λ a b. is_lt (output_cmp q a b)) (λ x y. nat_lt y.start x.start) back.0 (by_starts tree) (subst (IsSorted (output_cmp q)) back.2 l.sorted) in
-    found_in wanted back.0 rows found back.1 sorted
-    (l.shown_is ∙ ap (λ xs. take 1 (map (λ (o : Output). o.1) xs)) back.2 ∙ ap (take 1) (map-map (λ (o : Output). o.1) shown_as back.0)) first
+    let it = before_is table is.layout in
+    let got = reads_as (before_text table) params old new (archive_schema is.layout) is.schema _ it.meant it.plain it.unlisted rows h in
+    let sorted = shows_sorted (span_table table) before three_shown by_start_down params (is_before driver minute)
+    (tests_before driver minute) (λ x. (Int (pos x.start) ∷ [], span_shown x)) (λ t v x. refl) (λ x y. nat_lt y.start x.start)
+    (λ t x y. by_one_minute y.start x.start) (take 1) old.now.trees is.layout (spans_in table a)
+    (stands_in (span_table table) old.now is a s) rows
+    (listed_first (span_table_rows table) before three_shown by_start_down (overlay old.now.trees []) params rows (got.answer Null)) in
+    found_in (filter (is_before driver minute) (spans_in table a)) sorted.0 rows found sorted.2 sorted.3 sorted.1 first

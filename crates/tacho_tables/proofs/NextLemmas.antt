@@ -1,13 +1,9 @@
 -- The rows of a query on a driver's held spans, from a start on, read one at a time.
-use Rattle.std.proofs.Common.{◌≡◌, ◌∙◌, ℕ, pos, ◌==◌, ◌&&◌, Ordering, Less, Equal, Greater, Bool, true, false, cond}
+use Rattle.std.proofs.Common.{◌≡◌, ◌∙◌, ℕ, pos, ◌==◌, ◌&&◌, Bool, true, false, cond}
 use Rattle.std.proofs.Common.{List, [], ◌∷◌, ◌++◌}
-use Rattle.std.proofs.Common.{map, filter, Option, None, Result, Ok, Err, IfOk, OnErr, IsTrue, inl, inr, refl, sym, ap}
-use Rattle.std.proofs.Common.{subst, arith}
+use Rattle.std.proofs.Common.{map, Option, None, Result, Ok, Err, IfOk, OnErr, IsTrue, inl, inr, refl, sym, ap}
+use Rattle.std.proofs.Common.{subst}
 use Rattle.std.specs.Prelude.{nat_lt, nat_le}
-use Rattle.std.specs.List.Sorted.{IsSorted}
-use Rattle.std.specs.Ordering.{is_lt, int_cmp, ordering_then}
-use Rattle.std.proofs.lemmas.Int.{ints}
-use Rattle.std.proofs.lemmas.List.Sorted.{IsPermutation-trans}
 use Rattle.sqlite.specs.declared.error.Error.{Error}
 use Rattle.sqlite.specs.declared.types.Value.TheVariants.{Null, Int}
 use Rattle.sqlite.specs.declared.types.Value.{Value}
@@ -35,20 +31,18 @@ use Rattle.sqlite_schema.specs.declared.command.Returning.{Returning}
 use Rattle.sqlite_resolve.specs.Lowering.{Checked, and_then}
 use Rattle.sqlite_sql.specs.declared.ops.BinaryOp.TheVariants.{Compare}
 use Rattle.sqlite_sql.specs.declared.ops.CompareOp.TheVariants.{Eq, Le}
-use Rattle.sqlite_sql.specs.Query.{Query, Output, output, output_cmp}
 use Rattle.sqlite_tied.specs.Compute.{everything}
-use Rattle.sqlite_trees.proofs.ListLemmas.{pull_back, map-map}
-use Rattle.sqlite_value.specs.Order.{value_cmp}
-use Rattle.sqlite_value.proofs.OrderLemmas.{value_cmp-Int}
 use Rattle.tacho_tables.specs.Next.{AreOnward, IsKept, onward_text, IsAsked, BeginsOnward}
 use Rattle.tacho_tables.specs.Rows.{AreRowsOf, SpanRow, span_columns}
 use Rattle.tacho_tables.specs.Schema.{Layout, archive_schema}
 use Rattle.tacho_tables.specs.Tables.{IsArchive, is_onward, span_shown}
-use Rattle.tacho_tables.proofs.Answers.{simple, passes, listed, eq_test, le_test}
-use Rattle.tacho_tables.proofs.SortedLemmas.{sorted_before}
-use Rattle.tacho_tables.proofs.SpanLemmas.{and-true, none_given}
+use Rattle.tacho_tables.proofs.Answers.{passes, listed, eq_test, le_test}
+use Rattle.tacho_tables.proofs.SortedLemmas.{by_one_minute}
+use Rattle.tacho_tables.specs.declared.spans.SpanTable.TheVariants.{Held as HeldSpans}
+use Rattle.tacho_tables.proofs.Answers.{and-true}
+use Rattle.tacho_tables.proofs.SpanLemmas.{span_table}
+use Rattle.tacho_tables.proofs.TableLemmas.{shows_sorted}
 use Rattle.tacho_tables.proofs.Statements.{IsReading, stated, three_shown, by_start, span_names}
-use Rattle.tacho_tables.proofs.Stored.{shown_of}
 
 -- ---- the text
 
@@ -196,71 +190,36 @@ module _ {S X : Type 0} (g : Ghosts S) (params : Row) (old : Held S) (r : Result
 
 -- ---- the rows
 
--- a query sorted by start
-abbrev asked : Query
-asked = simple 10 onward three_shown by_start
+-- a complete answer shows all spans from the start on, in the order of their starts
+pub shown_onward : (driver start : ℕ) (all : List SpanRow) (old new : State) (rows : List Row) → IsArchive old.now
+    → Shown onward_text (Int (pos driver) ∷ Int (pos start) ∷ []) old new rows → AreRowsOf span_columns (old.now.trees 10) all
+    → (shown : List SpanRow) × (rows ≡ map span_shown shown) × AreOnward driver start all shown
+shown_onward driver start all old new rows is h s =
+    let params = Int (pos driver) ∷ Int (pos start) ∷ [] in
+    let it = onward_is is.layout in
+    let got = reads_as onward_text params old new (archive_schema is.layout) is.schema _ it.meant it.plain it.unlisted rows h in
+    let sorted = shows_sorted (span_table HeldSpans) onward three_shown by_start params (is_onward driver start) (onward_test driver start)
+    (λ x. (Int (pos x.start) ∷ [], span_shown x)) (λ t v x. refl) (λ x y. nat_lt x.start y.start) (λ t x y. by_one_minute x.start y.start)
+    (λ xs. xs) old.now.trees is.layout all s rows (listed 10 onward three_shown by_start (overlay old.now.trees []) params rows (got.answer Null)) in
+    (sorted.0, sorted.1, record { same = sorted.2; sorted = sorted.3 })
 
--- the key by which a span is sorted, and what it shows
-abbrev shown_as : SpanRow → Output
-shown_as x = (Int (pos x.start) ∷ [], span_shown x)
-
--- the earlier start comes first
-by_starts : (x y : SpanRow) → is_lt (output_cmp asked (shown_as x) (shown_as y)) ≡ nat_lt x.start y.start
-by_starts x y =
-    ap is_lt (then_equal (value_cmp (Int (pos x.start)) (Int (pos y.start))) ∙ value_cmp-Int (pos x.start)
-    (pos y.start)) ∙ same x.start y.start where
-      then_equal : (o : Ordering) → ordering_then o Equal ≡ o
-      then_equal Less = refl
-      then_equal Equal = refl
-      then_equal Greater = refl
-
-      same : (a b : ℕ) → is_lt (int_cmp (pos a) (pos b)) ≡ nat_lt a b
-      same a b = grind (arith, ints)
-
-module _ (driver start : ℕ) (all : List SpanRow) where
-  -- a complete answer shows all spans from the start on
-  pub shown_onward : (old new : State) (rows : List Row) → IsArchive old.now
-      → Shown onward_text (Int (pos driver) ∷ Int (pos start) ∷ []) old new rows
-      → AreRowsOf span_columns (old.now.trees 10) all
-      → (shown : List SpanRow) × (rows ≡ map span_shown shown) × AreOnward driver start all shown
-  shown_onward old new rows is h s =
-      let db = old.now.trees in
-      let params = Int (pos driver) ∷ Int (pos start) ∷ [] in
-      let it = onward_is is.layout in
-      let got = reads_as onward_text params old new (archive_schema is.layout) is.schema _ it.meant it.plain it.unlisted rows h in
-      let l = listed 10 onward three_shown by_start (overlay db []) params rows (got.answer Null) in
-      let passed = shown_of span_columns (db 10) all s (passes onward params) (is_onward driver start)
-      (onward_test driver start)
-      (λ (r : Row). output asked (params ∷ r ∷ [])) shown_as (λ v x. refl) in
-      let same = IsPermutation-trans _ _ _ passed (rw (none_given db 10) at l.same) in
-      let back = pull_back shown_as _ l.all same (filter (is_onward driver start) all) refl in (
-        back.0,
-        l.shown_is ∙ ap (map (λ (o : Output). o.1)) back.2 ∙ map-map (λ (o : Output). o.1) shown_as back.0,
-        record {
-          same = back.1;
-          sorted = sorted_before shown_as (λ a b. is_lt (output_cmp asked a b))
-              (λ x y. nat_lt x.start y.start) back.0 by_starts
-              (subst (IsSorted (output_cmp asked)) back.2 l.sorted);
-        },
-      )
-
-  -- the rows given so far are the first of these
-  pub given_onward : {S : Type 0} (g : Ghosts S) (h : Held S) (given : List Row) → IsArchive (state g h).now
-      → IsTrue (state g h).is_open
-      → HasGiven g onward_text (Int (pos driver) ∷ Int (pos start) ∷ []) h given
-      → AreRowsOf span_columns ((state g h).now.trees 10) all
-      → (tail : List Row) × (shown : List SpanRow) × (given ++ tail ≡ map span_shown shown) × AreOnward driver start all
-      shown
-  given_onward g h given archive opened it s =
-      let now = state g h in
-      let params = Int (pos driver) ∷ Int (pos start) ∷ [] in
-      let whole = begins_shown onward_text params now now given (given_begin g onward_text params h given it) (
-        record { was_open = opened; is_open = opened; now_is = refl; committed_is = refl; mode = refl },
-        record { changes = refl; last_rowid = refl },
-        refl,
-      )
-      (λ c db is source. subst (λ (k : Command). EndsIn k db (timed params c.formats is.now))
-      (sym (onward_is archive.layout).meant ∙ ap (λ x. command_of (understood x onward_text)) (sym archive.schema)
-      ∙ ap command_of is.is) tt) in
-      let all = shown_onward now now (given ++ whole.0) archive whole.1 s in
-      (whole.0, all.0, all.1, all.2)
+-- the rows given so far are the first of these
+pub given_onward : (driver start : ℕ) (all : List SpanRow) {S : Type 0} (g : Ghosts S) (h : Held S) (given : List Row) → IsArchive (state g h).now
+    → IsTrue (state g h).is_open
+    → HasGiven g onward_text (Int (pos driver) ∷ Int (pos start) ∷ []) h given
+    → AreRowsOf span_columns ((state g h).now.trees 10) all
+    → (tail : List Row) × (shown : List SpanRow) × (given ++ tail ≡ map span_shown shown) × AreOnward driver start all
+    shown
+given_onward driver start all g h given archive opened it s =
+    let now = state g h in
+    let params = Int (pos driver) ∷ Int (pos start) ∷ [] in
+    let whole = begins_shown onward_text params now now given (given_begin g onward_text params h given it) (
+      record { was_open = opened; is_open = opened; now_is = refl; committed_is = refl; mode = refl },
+      record { changes = refl; last_rowid = refl },
+      refl,
+    )
+    (λ c db is source. subst (λ (k : Command). EndsIn k db (timed params c.formats is.now))
+    (sym (onward_is archive.layout).meant ∙ ap (λ x. command_of (understood x onward_text)) (sym archive.schema)
+    ∙ ap command_of is.is) tt) in
+    let shown = shown_onward driver start all now now (given ++ whole.0) archive whole.1 s in
+    (whole.0, shown.0, shown.1, shown.2)

@@ -1,6 +1,7 @@
 -- What statements do on a table whose rows have hidden numbers, whichever table it is.
 use Rattle.std.proofs.Common.{◌≡◌, ◌∙◌, ◌/◌, drop, length, ℕ, List, [], ◌∷◌, ◌++◌, map, filter, slice_get, Bool, true, None, Some, Ok, refl, sym, ap, subst}
-use Rattle.std.specs.List.Sorted.{IsPermutation}
+use Rattle.std.specs.List.Sorted.{IsPermutation, IsSorted, IsSortedBy}
+use Rattle.std.specs.Ordering.{is_lt}
 use Rattle.std.proofs.lemmas.List.Sorted.{IsPermutation-trans}
 use Rattle.sqlite.specs.declared.types.Value.{Value}
 use Rattle.sqlite.specs.declared.types.Value.TheVariants.{Null}
@@ -19,15 +20,18 @@ use Rattle.sqlite.specs.State.{State, Executes, Shown}
 use Rattle.sqlite.proofs.Callers.{reads_as}
 use Rattle.sqlite_catalog.specs.Listing.{IsSound}
 use Rattle.sqlite_schema.specs.declared.schema.Column.{Column}
+use Rattle.sqlite_sql.specs.Query.{Output, output, output_cmp}
+use Rattle.sqlite_trees.proofs.ListLemmas.{map-map, pull_back}
 use Rattle.sqlite_value.specs.Keys.{plain}
 use Rattle.sqlite_value.specs.declared.keys.Key.{Key}
 use Rattle.tacho_tables.specs.Schema.{Layout, archive_schema, to_driver}
 use Rattle.tacho_tables.specs.Rows.{AreRowsOf}
 use Rattle.tacho_tables.specs.Tables.{Tables, HasTables, IsArchive, Turns}
-use Rattle.tacho_tables.proofs.Answers.{passes, listed, none_given, shows}
+use Rattle.tacho_tables.proofs.Answers.{ListedIn, passes, listed, none_given, shows, simple}
 use Rattle.tacho_tables.proofs.CatalogLemmas.{layout_is}
 use Rattle.tacho_tables.proofs.Idle.{idle}
 use Rattle.tacho_tables.proofs.Kept.{AreKept}
+use Rattle.tacho_tables.proofs.SortedLemmas.{sorted_before}
 use Rattle.tacho_tables.proofs.Statements.{IsStatement, IsReading}
 use Rattle.tacho_tables.proofs.Stored.{shown_of}
 use Rattle.tacho_tables.proofs.TurnLemmas.{turns}
@@ -108,3 +112,27 @@ module _ {X : Type 0} {columns : X → Row} {name : List ℕ} {kinds : List Colu
       IsPermutation-trans _ _ _ (shown_of columns (db at) (get a) (stands_in old.now is a s) (passes tests params) p tested
       (λ (r : Row). eval_all terms (params ∷ r ∷ [])) show same)
       (rw (none_given db at) at (shows at tests terms order (overlay db []) params rows l))
+
+  -- a reading in an order shows the values that pass in that order, or as many of them as it shows
+  module _ (tests terms : List Term) (order : List (Term × Key)) (params : Row) (p : X → Bool)
+      (tested : (v : Value) (x : X) → passes tests params (v ∷ columns x) ≡ p x) (shown_as : X → Output)
+      (out : (t : ℕ) (v : Value) (x : X) → output (simple t tests terms order) (params ∷ (v ∷ columns x) ∷ []) ≡ shown_as x)
+      (before : X → X → Bool)
+      (sorts : (t : ℕ) (x y : X) → is_lt (output_cmp (simple t tests terms order) (shown_as x) (shown_as y)) ≡ before x y) where
+    pub shows_sorted : (cut : List Row → List Row) (db : Trees) (layout : Layout) (all : List X) → AreRowsOf columns (db (tree layout)) all
+        → (rows : List Row) → ListedIn cut (tree layout) tests terms order (overlay db []) params rows
+        → (shown : List X) × (rows ≡ cut (map (λ x. (shown_as x).1) shown)) × IsPermutation (filter p all) shown × IsSortedBy before shown
+    shows_sorted cut db layout all stands rows l =
+        let at = tree layout in
+        let q = simple at tests terms order in
+        let passed = shown_of columns (db at) all stands (passes tests params) p tested
+        (λ (r : Row). output q (params ∷ r ∷ [])) shown_as (out at) in
+        let same = IsPermutation-trans _ _ _ passed (rw (none_given db at) at l.same) in
+        let back = pull_back shown_as _ l.all same (filter p all) refl in (
+          back.0,
+          l.shown_is ∙ ap (λ xs. cut (map (λ (o : Output). o.1) xs)) back.2
+              ∙ ap cut (map-map (λ (o : Output). o.1) shown_as back.0),
+          back.1,
+          sorted_before shown_as (λ o u. is_lt (output_cmp q o u)) before back.0 (sorts at)
+              (subst (IsSorted (output_cmp q)) back.2 l.sorted),
+        )
