@@ -42,32 +42,26 @@ none_empty_from place (e ∷ batch) h = go e.withdrawn (none_empty_from place ba
 pub no_empty_entry : (batch : List Entry) → AreFull batch → first_empty (entered_spans batch) ≡ None
 no_empty_entry batch h = none_empty_from 0 batch h
 
--- a driver, and a batch
-module _ (batch : List Entry) (d : Driver) where
-  -- if enough numbers are left, the driver may have these entries too
-  few_more : (first : ℕ) → next_number (length d.entries) (length batch) ≡ Some first → length (d.entries ++ batch) ≤ most_records
-  few_more first e = go (nat_le (length d.entries + length batch) 1000000) refl e where
-    go : (b : Bool) → nat_le (length d.entries + length batch) 1000000 ≡ b → cond b (Some (length d.entries + 1)) None ≡ Some first
-        → length (d.entries ++ batch) ≤ most_records
-    go true t f =
-        let room : length d.entries + length batch ≤ most_records = grind (arith, nat_tests) in
-        let all = length-append d.entries batch in
-        omega (arith, room, all)
-    go false t f = cc
+-- if numbers are left for so many records, they may be had
+pub room_left : (given count first : ℕ) → next_number given count ≡ Some first → given + count ≤ most_records
+room_left given count first e = go (nat_le (given + count) 1000000) refl e where
+  go : (b : Bool) → nat_le (given + count) 1000000 ≡ b → cond b (Some (given + 1)) None ≡ Some first → given + count ≤ most_records
+  go true t f = grind (arith, nat_tests)
+  go false t f = cc
 
-  -- if the entries contradict nothing either, the driver's downloads and entries satisfy `AreKept`
-  pub kept_batch : (first : ℕ) → AreKept d.downloads d.entries → next_number (length d.entries) (length batch) ≡ Some first
-      → ((m : ℕ) → ¬ (Conflicts (Gives (held_spans d ++ entered_spans batch)) m)) → AreKept d.downloads (d.entries ++ batch)
-  kept_batch first kept e h =
-      let all : held_spans d ++ entered_spans batch ≡ given_spans d.downloads ++ entered_spans (d.entries ++ batch) =
-      append_assoc (given_spans d.downloads) (entered_spans d.entries) (entered_spans batch)
-      ∙ ap (λ (xs : List Span). given_spans d.downloads ++ xs) (sym (entered_append d.entries batch))
-      in
-      record {
-        agreed = subst (λ (xs : List Span). (m : ℕ) → ¬ (Conflicts (Gives xs) m)) all h;
-        few_downloads = kept.few_downloads;
-        few = few_more first e;
-      }
+-- entries that contradict nothing may be had too
+pub kept_batch : (batch : List Entry) (d : Driver) → AreKept d.downloads d.entries → length d.entries + length batch ≤ most_records
+    → ((m : ℕ) → ¬ (Conflicts (Gives (held_spans d ++ entered_spans batch)) m)) → AreKept d.downloads (d.entries ++ batch)
+kept_batch batch d kept room h =
+    let all : held_spans d ++ entered_spans batch ≡ given_spans d.downloads ++ entered_spans (d.entries ++ batch) =
+    append_assoc (given_spans d.downloads) (entered_spans d.entries) (entered_spans batch)
+    ∙ ap (λ (xs : List Span). given_spans d.downloads ++ xs) (sym (entered_append d.entries batch))
+    in
+    record {
+      agreed = subst (λ (xs : List Span). (m : ℕ) → ¬ (Conflicts (Gives xs) m)) all h;
+      few_downloads = kept.few_downloads;
+      few = (let both = length-append d.entries batch in omega (arith, both, room));
+    }
 
 -- ---- entries by number
 

@@ -1,5 +1,5 @@
 -- What the gains against a line say about the spans from which the line was made.
-use Rattle.std.proofs.Common.{◌≡◌, ◌≢◌, ℕ, ◌+◌, ◌<◌, ◌⊎◌, inl, inr, ◌==◌, nat_le, Bool, false, cond, List, [], ◌∷◌, ◌++◌, length, Some, None, Result, Ok, Err, IfOk, MatchResult, refl, sym, ap, ◌∙◌, arith}
+use Rattle.std.proofs.Common.{◌≡◌, ◌≢◌, ℕ, ◌+◌, ◌<◌, ◌⊎◌, inl, inr, ◌==◌, nat_le, false, cond, List, [], ◌∷◌, ◌++◌, length, Some, None, refl, sym, ap, ◌∙◌, arith}
 use Rattle.std.proofs.lemmas.Bool.{eq-eqb}
 use Rattle.std.proofs.lemmas.Bool.Decides.{nat_tests}
 use Rattle.tacho_time.specs.declared.span.Span.{Span}
@@ -119,16 +119,5 @@ module _ (held line spans : List Span) (known : IsCanonicalOf (Gives held) line)
       not_within spans held (some_new 0 past line line spans gains x (Gives held) keeps all_in_range all_near g) ∙ sym more
 
   -- if they contradict, it doesn't
-  pub not_within_by_fault : (fault : LineFault) → IsGainFault line spans fault → first_empty spans ≡ None → fault ≢ LineMemory
-      → is_within spans held ≡ false
-  not_within_by_fault (EmptySpan at) f none memory = cc
-  not_within_by_fault (LineContradiction m) f none memory =
-      not_within spans held (clash_new 0 past line line spans (Gives held) m keeps all_near f.1)
-  not_within_by_fault LineMemory f none memory = absurd (memory refl)
-
-  -- the result, given the fault
-  pub told_by_fault : {E : Type 0} (told : Result Bool E) (fault : LineFault)
-      → MatchResult told (λ given. (given ≡ false) × (fault ≢ LineMemory)) (λ (e : E). fault ≡ LineMemory)
-      → IsGainFault line spans fault → first_empty spans ≡ None → IfOk told (λ given. is_within spans held ≡ given)
-  told_by_fault (Ok given) fault h f none = not_within_by_fault fault f none h.1 ∙ sym h.0
-  told_by_fault (Err e) fault h f none = tt
+  pub not_within_by_conflict : (m : ℕ) → IsFirstConflict (Together line spans) m → is_within spans held ≡ false
+  not_within_by_conflict m f = not_within spans held (clash_new 0 past line line spans (Gives held) m keeps all_near f)

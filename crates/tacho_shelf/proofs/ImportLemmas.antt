@@ -1,5 +1,5 @@
 -- What is kept once a card file is added.
-use Rattle.std.proofs.Common.{ℕ, ◌+◌, ◌<◌, ◌⊎◌, inl, inr, List, [], ◌∷◌, ◌++◌, length, arith}
+use Rattle.std.proofs.Common.{ℕ, ◌+◌, ◌≤◌, ◌⊎◌, inl, inr, List, [], ◌∷◌, ◌++◌, length, arith}
 use Rattle.std.proofs.lemmas.List.{length-append}
 use Rattle.tacho_time.specs.declared.span.Span.{Span}
 use Rattle.tacho_time.specs.declared.span.Mark.{Mark}
@@ -12,7 +12,7 @@ use Rattle.tacho_shelf.specs.Shelf.{AreKept}
 
 -- `AreKept` still holds once a download is added whose spans contradict nothing held, if there is room
 pub kept_download : (d : Driver) (part : ℕ) (file : List ℕ) (spans : List Span) → AreKept d.downloads d.entries
-    → length d.downloads < most_records → ((m : ℕ) → ¬ (Conflicts (Gives (held_spans d ++ spans)) m))
+    → length d.downloads + 1 ≤ most_records → ((m : ℕ) → ¬ (Conflicts (Gives (held_spans d ++ spans)) m))
     → AreKept (d.downloads ++ record { part = part; file = file; spans = spans } ∷ []) d.entries
 kept_download d part file spans kept room h =
     record {

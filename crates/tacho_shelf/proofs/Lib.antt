@@ -4,6 +4,5 @@ pub mod GainLemmas
 pub mod ImportLemmas
 pub mod EntryLemmas
 pub mod RangeLemmas
-pub mod ShelfLemmas
-pub mod TurnLemmas
+pub mod CallLemmas
 pub mod SummaryLemmas

@@ -1,12 +1,9 @@
 -- A withdrawal of a range of entries, which are all checked first and marked then; and what it answers.
-use Rattle.std.proofs.Common.{◌≡◌, ℕ, zero, suc, ◌+◌, ◌-◌, ◌<◌, ◌≤◌, ◌==◌, Bool, true, false, cond, List, Option, Some, None, Result, Ok, Err, refl, sym, ap, ◌∙◌, subst, arith}
+use Rattle.std.proofs.Common.{◌≡◌, ℕ, zero, suc, ◌+◌, ◌-◌, ◌<◌, ◌≤◌, ◌==◌, Bool, true, false, List, Ok, Err, refl, sym, ap, ◌∙◌, subst, arith}
 use Rattle.std.proofs.lemmas.Bool.Decides.{nat_tests}
-use Rattle.tacho_card.specs.declared.fault.CardFault.{CardFault}
 use Rattle.tacho_state.specs.declared.fault.StoreFault.{StoreFault}
-use Rattle.tacho_state.specs.declared.fault.StoreFault.TheVariants.{AlreadyWithdrawn, Card}
-use Rattle.tacho_state.specs.State.{Driver, Entry, State, driver_of, entry_from, with_marked}
-use Rattle.tacho_state.specs.Steps.{and_then, own_turn, turn_of, withdrawn_by, withdraw_own, withdraw_from, withdraw_range_step}
-use Rattle.tacho_state.specs.Acts.{Answers, IsOfNoFile}
+use Rattle.tacho_state.specs.State.{Driver, Entry, with_marked}
+use Rattle.tacho_state.specs.Steps.{and_then, withdraw_own, withdraw_from}
 use Rattle.tacho_state.proofs.RangeLemmas.{IsKept, done_kept, one_more, refused_at, refused_still, still_kept}
 use Rattle.tacho_shelf.specs.Shelf.{IsEnteredAt, IsEntered, AreEntered}
 use Rattle.tacho_shelf.proofs.EntryLemmas.{entry_before, entry_at}
@@ -93,41 +90,3 @@ pub last_marked : (first number last : ℕ) (old d after : Driver) → HasMarked
 last_marked first number last old d after h low past high e =
     let end : number + 1 ≡ last + 1 = omega (arith, past, high) in
     ap (λ (k : ℕ). withdraw_from first (k - first) old) (sym end) ∙ (one_marked first number last old d after low h e).done
-
--- ---- the answer
-
--- no withdrawal fails with a file's fault
-one_of_no_file : (number : ℕ) (d : Driver) (card : CardFault) → withdraw_own number d ≡ Err (Card card) → ⊥
-one_of_no_file number d card = go (entry_from 1 number d.entries) where
-  flag : (w : Bool) → cond {A = Result (Unit {0} × Driver) StoreFault} w (Err AlreadyWithdrawn) (Ok (tt, with_marked number d)) ≡ Err (Card card)
-      → ⊥
-  flag true e = cc
-  flag false e = cc
-
-  go : (o : Option Entry) → withdrawn_by number d o ≡ Err (Card card) → ⊥
-  go None e = cc
-  go (Some x) e = flag x.withdrawn e
-
-all_of_no_file : (count first : ℕ) (d : Driver) (card : CardFault) → withdraw_from first count d ≡ Err (Card card) → ⊥
-all_of_no_file zero first d card e = cc
-all_of_no_file (suc count) first d card e =
-    go (withdraw_own first d) (one_of_no_file first d card) (λ x. all_of_no_file count (first + 1) x card) e where
-      go : (r : Result (Unit {0} × Driver) StoreFault) → (r ≡ Err (Card card) → ⊥)
-          → ((x : Driver) → withdraw_from (first + 1) count x ≡ Err (Card card) → ⊥)
-          → and_then r (withdraw_from (first + 1) count) ≡ Err (Card card) → ⊥
-      go (Err fault) one more f = one (let same : fault ≡ Card card = cc in ap Err same)
-      go (Ok done) one more f = more done.1 f
-
--- so no call that answers as the step does fails with one
-pub range_of_no_file : (n first last : ℕ) (s : State) (result : Result (Unit {0}) StoreFault)
-    → Answers {B = Unit {0}} (λ (u : Unit {0}). tt) result (withdraw_range_step n first last s).answer → IsOfNoFile result
-range_of_no_file n first last s (Ok u) h = tt
-range_of_no_file n first last s (Err (Card card)) h = go (driver_of n s) h where
-  turned : (r : Result (Unit {0} × Driver) StoreFault) → (r ≡ Err (Card card) → ⊥) → (turn_of s r).answer ≡ Err (Card card) → ⊥
-  turned (Ok done) none e = cc
-  turned (Err fault) none e = none (let same : fault ≡ Card card = cc in ap Err same)
-
-  go : (o : Option Driver) → (own_turn (withdraw_from first (last + 1 - first)) s o).answer ≡ Err (Card card) → ⊥
-  go None e = cc
-  go (Some d) e = turned (withdraw_from first (last + 1 - first) d) (all_of_no_file (last + 1 - first) first d card) e
-range_of_no_file n first last s (Err fault) h = tt

@@ -1,24 +1,23 @@
 -- Private to tacho_shelf: What the functions of a shelf do to its drivers.
-use Rattle.std.specs.Prelude.{◌≡◌, ℕ, ◌+◌, ◌<◌, ◌≤◌, false, List, [], ◌∷◌, ◌++◌, length, Option, None, Some, Result, Ok, Err, bytes_eq, slice_get, if◌then◌else◌}
+use Rattle.std.specs.Prelude.{◌≡◌, ℕ, ◌+◌, ◌<◌, ◌≤◌, false, List, [], ◌∷◌, ◌++◌, length, Option, None, Some, Result, Ok, Err, MatchResult, OnErr, slice_get}
 use Rattle.tacho_time.specs.OrMemory.{OrMemory}
 use Rattle.tacho_time.specs.declared.span.Span.{Span}
 use Rattle.tacho_time.specs.Spans.{Gives, Conflicts}
 use Rattle.tacho_card.specs.declared.fault.CardFault.{CardFault}
 use Rattle.tacho_card.specs.declared.file.Part.{Part}
 use Rattle.tacho_state.specs.declared.fault.StoreFault.{StoreFault}
-use Rattle.tacho_state.specs.declared.fault.StoreFault.TheVariants.{Memory, UnknownDriver, NotYourCard, Contradiction, Card}
-use Rattle.tacho_state.specs.declared.imported.Imported.{Imported}
-use Rattle.tacho_state.specs.declared.imported.Imported.TheVariants.{Added, Repeated}
+use Rattle.tacho_state.specs.declared.fault.StoreFault.TheVariants.{Memory, Contradiction, Card}
 use Rattle.tacho_state.specs.Content.{FileTells}
 use Rattle.tacho_state.specs.Registration.{Registration}
-use Rattle.tacho_state.specs.State.{Download, Entry, Driver, State, driver_of, holding, given_spans, entered_spans, with_download}
-use Rattle.tacho_state.specs.Steps.{Turn, most_records, known_driver}
-use Rattle.tacho_state.specs.Acts.{Answers, state_left_by}
+use Rattle.tacho_state.specs.State.{Download, Entry, Driver, State, given_spans, entered_spans}
+use Rattle.tacho_state.specs.Distinct.{HasNot}
+use Rattle.tacho_state.specs.Steps.{Own, most_records, refusal_turn, turn_of, import_own, import_step}
+use Rattle.tacho_state.specs.Acts.{IsOfNoFile}
 
 -- no two drivers have the same number
 abbrev pub AreNumbered : State → Type 0
 AreNumbered [] = Unit {0}
-AreNumbered (d ∷ s) = (driver_of d.number s ≡ None) × AreNumbered s
+AreNumbered (d ∷ s) = HasNot d.number s × AreNumbered s
 
 -- a driver's downloads and entries give no minute two marks, and there are at most `most_records` of each
 pub record AreKept (downloads : List Download) (entries : List Entry) : Type 0 where
@@ -34,6 +33,13 @@ IsIndexOf s sought None = sought ≡ None
 -- the fault is out of memory, or the step's answer
 abbrev pub IsStepFault : {A : Type 0} → Result A StoreFault → StoreFault → Type 0
 IsStepFault told fault = OrMemory Memory fault (told ≡ Err fault)
+
+-- the call does to the driver what a command on one driver does, or it gives up and changes nothing; the number stays
+pub record IsOwnStep {A B : Type 0} (view : A → B) (own : Own B) (old new : Driver) (result : Result A StoreFault) : Type 0 where
+  pub told : MatchResult result (λ done. own old ≡ Ok (view done, new)) (IsStepFault (own old))
+  pub left : OnErr result (new ≡ old)
+  pub number : new.number ≡ old.number
+  pub of_no_file : IsOfNoFile result
 
 -- the fault is out of memory, or the least minute that is contradicted
 abbrev pub IsLeast : Option ℕ → StoreFault → Type 0
@@ -55,29 +61,17 @@ AreEntered entries first last = (number : ℕ) → first ≤ number → number �
 abbrev pub IsCardFault : Part → List ℕ → StoreFault → Type 0
 IsCardFault part bytes fault = OrMemory Memory fault ((f : CardFault) × (fault ≡ Card f) × FileTells part bytes (Err f))
 
--- the driver, if there is one and their card has this holder: S4, S5
-abbrev pub known_by : List ℕ → Option Driver → Result Driver StoreFault
-known_by holder None = Err UnknownDriver
-known_by holder (Some d) = if bytes_eq d.holder holder then Ok d else Err NotYourCard
+-- for this caller (no number for the office), the card with this holder is that of the driver at this place: S4, S5
+abbrev pub IsOwnerAt : State → Option ℕ → List ℕ → ℕ → Type 0
+IsOwnerAt s caller holder i =
+    (d : Driver) × (slice_get s i ≡ Some d) × ((part : ℕ) (file : List ℕ) (spans : List Span)
+    → import_step caller part file (Ok (record { holder = holder; spans = spans })) s ≡ turn_of s (import_own part file spans d))
 
--- the owner of a card with this holder, for the office (no number) or for a driver who imports the file
-abbrev pub owner_of : Option ℕ → List ℕ → State → Result Driver StoreFault
-owner_of None holder s = known_driver (holding holder s)
-owner_of (Some n) holder s = known_by holder (driver_of n s)
-
--- the driver who was looked for is at this place
-abbrev pub IsOwnerAt : State → Result Driver StoreFault → ℕ → Type 0
-IsOwnerAt s sought i = (d : Driver) × (slice_get s i ≡ Some d) × (sought ≡ Ok d)
-
--- the result of an import: the download gets this number, or the file is repeated if there is none
-abbrev pub import_answer : ℕ → List ℕ → List Span → Driver → Option ℕ → Imported × Driver
-import_answer part file spans d (Some n) = (Added d.number n, with_download part file spans d)
-import_answer part file spans d None = (Repeated d.number, d)
-
--- the call answers as the step does and leaves the step's state, or gives up and leaves the state before
-pub record Turns {A B : Type 0} (view : A → B) (old new : State) (result : Result A StoreFault) (step : State → Turn B) : Type 0 where
-  pub answer : Answers view result (step old).answer
-  pub state : new ≡ state_left_by result old (step old).after
+-- the import of a card with this holder is refused with this fault
+abbrev pub IsOwnerFault : State → Option ℕ → List ℕ → StoreFault → Type 0
+IsOwnerFault s caller holder fault =
+    (part : ℕ) (file : List ℕ) (spans : List Span)
+    → import_step caller part file (Ok (record { holder = holder; spans = spans })) s ≡ refusal_turn fault s
 
 -- a driver who was just registered
 abbrev pub new_driver : Registration → Driver

@@ -1,7 +1,7 @@
-ghost use Rattle.std.specs.Prelude.{◌≡◌, ◌≢◌, ℕ, false, MatchResult};
+ghost use Rattle.std.specs.Prelude.{◌≡◌, ◌≢◌, ℕ, Err, IfOk};
 ghost use Rattle.tacho_time.specs.OrMemory.{OrMemory};
-ghost use Rattle.tacho_line.specs.declared.line.LineFault.TheVariants.{Memory as NoMemory};
-ghost use Rattle.tacho_state.specs.Limits.{next_number};
+ghost use Rattle.tacho_time.specs.Spans.{Gives, IsCanonicalOf, Conflicts};
+ghost use Rattle.tacho_state.specs.Acts.{IsOfNoFile};
 ghost use Rattle.tacho_state.specs.State.{driver_of, driver_with_key, holding};
 ghost use Rattle.tacho_shelf.specs.Shelf.{IsIndexOf};
 
@@ -10,10 +10,9 @@ use std::alloc::{AllocError, Global};
 use std::marker::Model;
 use tacho_card::Part;
 use tacho_line::{Line, LineFault};
-use tacho_rules::Report;
 use tacho_state::{
     Driver, DriverSummary, Entered, Entry, EntryLine, FileSummary, Imported, StoreFault,
-    file_summary, first_number, line_of, report_of, stretches_of,
+    file_summary, first_number, is_monday, line_of, stretches_of,
 };
 use tacho_stretches::Stretch;
 use tacho_time::{Day, Span, SpanFault};
@@ -58,11 +57,11 @@ impl Download {
 /// as many of each as there are numbers.
 #[derive(Drop)]
 pub(crate) struct Row {
-    number: u32,
-    holder: Vec<u8>,
-    key: String,
-    base: Day,
-    name: String,
+    pub(crate) number: u32,
+    pub(crate) holder: Vec<u8>,
+    pub(crate) key: String,
+    pub(crate) base: Day,
+    pub(crate) name: String,
     downloads: Vec<Download>,
     entries: Vec<Hours>,
 }
@@ -83,18 +82,19 @@ impl Row {
     ghost use Rattle.std.specs.Prelude.{◌≡◌, ◌⊎◌, ◌*◌, ◌+◌, ◌-◌, ◌<◌, ◌≤◌, ℕ, List, ◌++◌, length, All, None, Ok, Err, bytes_eq, string_bytes, IfOk, IfErr, OnOk, OnSome, OnErr, MatchResult, map};
     ghost use Rattle.std.specs.Option.{option_copied};
     ghost use Rattle.tacho_time.specs.Spans.{Gives, IsCanonical, IsCanonicalOf, Conflicts};
-    ghost use Rattle.tacho_line.specs.Line.{first_empty};
-    ghost use Rattle.tacho_rules.specs.Report.{IsReport};
+    ghost use Rattle.tacho_line.specs.Line.{first_empty, mark_at};
     ghost use Rattle.tacho_stretches.specs.Stretches.{AreStretches, judged_of};
     ghost use Rattle.tacho_state.specs.Batch.{IsEntryLine, batch_of};
     ghost use Rattle.tacho_state.specs.Least.{least_conflict, is_within};
-    ghost use Rattle.tacho_state.specs.State.{IsDownloaded, Held, AreFull, given_spans, held_spans, download_from, with_batch};
-    ghost use Rattle.tacho_state.specs.Steps.{import_own, enter_own, withdraw_own, withdraw_from, most_records, numbered_from};
+    ghost use Rattle.tacho_state.specs.State.{IsDownloaded, Held, AreFull, given_spans, held_mark, held_spans, download_from, with_batch};
+    ghost use Rattle.tacho_state.specs.Steps.{import_own, enter_own, withdraw_own, withdraw_from, rebase_own, rekey_own, rename_own, most_records, numbered_from};
     ghost use Rattle.tacho_state.specs.Limits.{next_number};
     ghost use Rattle.tacho_state.specs.Numbers.{part_number};
+    ghost use Rattle.tacho_state.specs.Acts.{IsOfNoFile};
+    ghost use Rattle.tacho_state.specs.declared.imported.Imported.TheVariants.{Repeated};
     ghost use Rattle.tacho_state.specs.Files.{listed_from, told_file};
     ghost use Rattle.tacho_state.specs.Summaries.{summary_of, told_summary};
-    ghost use Rattle.tacho_shelf.specs.Shelf.{IsStepFault, IsLeast, IsEnteredAt, IsEntered, AreEntered, AreKept, new_driver, import_answer};
+    ghost use Rattle.tacho_shelf.specs.Shelf.{IsStepFault, IsOwnStep, IsLeast, IsEnteredAt, IsEntered, AreEntered, AreKept, new_driver};
 
     /// Makes a driver who is registered now.
     pub(crate) fn new(alloc: Global, driver: &Driver) -> Result<Row, AllocError>
@@ -133,46 +133,13 @@ impl Row {
         Ok(spans)
     }
 
-    /// Returns the line of what the downloads give.
-    fn given_line(&self, alloc: Global) -> Result<Line, AllocError>
-        ensures { IfOk result (λ line. IsCanonicalOf (IsDownloaded self.now) line) }
-    {
-        let spans = self.given_spans(alloc)?;
-        match line_of(alloc, &spans) {
-            Ok(line) => Ok(line),
-            Err(fault) => Err(no_memory(fault)),
-        }
-    }
-
     /// Returns the line of what the driver holds.
     pub(crate) fn line(&self, alloc: Global) -> Result<Line, AllocError>
-        ensures { IfOk result (λ line. IsCanonicalOf (Held self.now) line) }
+        ensures line { IfOk result (λ line. IsCanonicalOf (Held self.now) line) }
+        ensures marks { IfOk result (λ line. mark_at line ≡ held_mark self.now) }
     {
         let spans = self.held_spans(alloc)?;
-        match line_of(alloc, &spans) {
-            Ok(line) => Ok(line),
-            Err(fault) => Err(no_memory(fault)),
-        }
-    }
-
-    /// Returns the report of what the driver holds, from their base.
-    pub(crate) fn report(&self, alloc: Global) -> Result<Report, StoreFault>
-        ensures report { IfOk result (λ report. IsReport (held_spans self.now) (1440 * self.now.base) report.horizon report.breaches.items report.debts.items) }
-        ensures fault { IfErr result (λ fault. OrMemory StoreFault.Memory fault (fault ≡ StoreFault.Store)) }
-    {
-        let Ok(line) = self.line(alloc) else {
-            return Err(StoreFault::Memory);
-        };
-        report_of(alloc, &line, self.base.number())
-    }
-
-    /// Returns the stretches of what the driver holds, from their base.
-    pub(crate) fn stretches(&self, alloc: Global) -> Result<Vec<Stretch>, StoreFault>
-        ensures stretches { IfOk result (λ found. AreStretches (held_spans self.now) (1440 * self.now.base) (map judged_of found.items)) }
-        ensures fault { IfErr result (λ fault. OrMemory StoreFault.Memory fault (fault ≡ StoreFault.Store)) }
-    {
-        let (_, stretches) = self.line_and_stretches(alloc)?;
-        Ok(stretches)
+        Ok(agreed_line(alloc, &spans)?)
     }
 
     /// Returns the line of what the driver holds, and its stretches from their base.
@@ -180,29 +147,13 @@ impl Row {
         &self,
         alloc: Global,
     ) -> Result<(Line, Vec<Stretch>), StoreFault>
-        ensures line { IfOk result (λ found. IsCanonicalOf (Held self.now) found.0) }
+        ensures line { IfOk result (λ found. mark_at found.0 ≡ held_mark self.now) }
         ensures stretches { IfOk result (λ found. AreStretches (held_spans self.now) (1440 * self.now.base) (map judged_of found.1.items)) }
         ensures fault { IfErr result (λ fault. OrMemory StoreFault.Memory fault (fault ≡ StoreFault.Store)) }
     {
-        let Ok(line) = self.line(alloc) else {
-            return Err(StoreFault::Memory);
-        };
+        let line = self.line(alloc)?;
         let stretches = stretches_of(alloc, &line, self.base.number())?;
         Ok((line, stretches))
-    }
-
-    /// Makes a copy of the driver's name.
-    pub(crate) fn copy_of_name(&self, alloc: Global) -> Result<String, AllocError>
-        ensures { IfOk result (λ name. string_bytes name ≡ self.now.name) }
-    {
-        String::from_str(alloc, &self.name)
-    }
-
-    /// Makes a copy of the driver's key.
-    pub(crate) fn copy_of_key(&self, alloc: Global) -> Result<String, AllocError>
-        ensures { IfOk result (λ key. string_bytes key ≡ self.now.key) }
-    {
-        String::from_str(alloc, &self.key)
     }
 
     /// Returns what is listed of the driver.
@@ -215,7 +166,7 @@ impl Row {
             base: self.base,
             downloads: self.downloads.len() as u32,
             entries: self.entries.len() as u32,
-            name: self.copy_of_name(alloc)?,
+            name: String::from_str(alloc, &self.name)?,
         })
     }
 
@@ -252,10 +203,13 @@ impl Row {
         requires { first_empty spans.now ≡ None }
         ensures { IfOk result (λ given. is_within spans.now (given_spans self.now.downloads) ≡ given) }
     {
-        let line = self.given_line(alloc)?;
+        let given = self.given_spans(alloc)?;
+        let line = agreed_line(alloc, &given)?;
         match line.gains(alloc, spans) {
             Ok(gains) => Ok(gains.is_empty()),
-            Err(fault) => differs(fault),
+            Err(LineFault::Contradiction(_)) => Ok(false),
+            Err(LineFault::EmptySpan(_)) => unreachable!(),
+            Err(LineFault::Memory) => Err(AllocError),
         }
     }
 
@@ -264,33 +218,12 @@ impl Row {
         requires { first_empty spans.now ≡ None }
         ensures told { MatchResult result (λ _. least_conflict (held_spans self.now ++ spans.now) ≡ None) (IsLeast (least_conflict (held_spans self.now ++ spans.now))) }
         ensures agreed { OnOk result ((m : ℕ) → ¬ (Conflicts (Gives (held_spans self.now ++ spans.now)) m)) }
+        ensures of_no_file { IsOfNoFile result }
     {
-        let Ok(line) = self.line(alloc) else {
-            return Err(StoreFault::Memory);
-        };
+        let line = self.line(alloc)?;
         match line.gains(alloc, spans) {
             Ok(_) => Ok(()),
             Err(fault) => Err(gain_fault(fault)),
-        }
-    }
-
-    /// Returns the number for a download that gives these spans, or none if downloads already give them all: S6, S14.
-    fn number_for(&self, alloc: Global, spans: &[Span]) -> Result<Option<u32>, StoreFault>
-        requires { first_empty spans.now ≡ None }
-        ensures told { (part : ℕ) (file : List ℕ) → MatchResult result (λ number. import_own part file spans.now self.now ≡ Ok (import_answer part file spans.now self.now number)) (IsStepFault (import_own part file spans.now self.now)) }
-        ensures agreed { IfOk result (λ number. OnSome number ((m : ℕ) → ¬ (Conflicts (Gives (held_spans self.now ++ spans.now)) m))) }
-        ensures bounded { IfOk result (λ number. OnSome number (length self.now.downloads < most_records)) }
-    {
-        let Ok(repeated) = self.has_given(alloc, spans) else {
-            return Err(StoreFault::Memory);
-        };
-        if repeated {
-            return Ok(None);
-        }
-        self.check(alloc, spans)?;
-        match first_of(self.downloads.len(), 1) {
-            Some(number) => Ok(Some(number)),
-            None => Err(StoreFault::Full),
         }
     }
 
@@ -303,46 +236,24 @@ impl Row {
         spans: Vec<Span>,
     ) -> Result<Imported, StoreFault>
         requires { IsCanonical spans.items }
-        ensures told { MatchResult result (λ done. import_own (part_number part) file.now spans.items self.old ≡ Ok (done, self.new)) (IsStepFault (import_own (part_number part) file.now spans.items self.old)) }
-        ensures number { self.new.number ≡ self.old.number }
-        ensures err { OnErr result (self.new ≡ self.old) }
+        ensures step { IsOwnStep (λ done. done) (import_own (part_number part) file.now spans.items) self.old self.new result }
+        ensures repeated { (number : ℕ) → result ≡ Ok (Repeated number) → self.new ≡ self.old }
     {
-        let Some(number) = self.number_for(alloc, &spans)? else {
+        if self.has_given(alloc, &spans)? {
             return Ok(Imported::Repeated {
                 driver: self.number,
             });
+        }
+        self.check(alloc, &spans)?;
+        let Some(number) = first_number(self.downloads.len() as u32, 1) else {
+            return Err(StoreFault::Full);
         };
-        let Ok(file) = Vec::from_slice(alloc, file) else {
-            return Err(StoreFault::Memory);
-        };
-        let Ok(()) = self.downloads.push(Download { part, file, spans }) else {
-            return Err(StoreFault::Memory);
-        };
+        let file = Vec::from_slice(alloc, file)?;
+        self.downloads.push(Download { part, file, spans })?;
         Ok(Imported::Added {
             driver: self.number,
             number,
         })
-    }
-
-    /// Returns the numbers for hours that are to be entered: S6, S14.
-    fn numbers_for(&self, alloc: Global, batch: &[Hours]) -> Result<Entered, StoreFault>
-        requires { AreFull batch.now }
-        ensures told { MatchResult result (λ done. enter_own batch.now self.now ≡ Ok (done.first, with_batch batch.now self.now)) (IsStepFault (enter_own batch.now self.now)) }
-        ensures count { IfOk result (λ done. done.count ≡ length batch.now) }
-        ensures kept { OnOk result (AreKept self.now.downloads (self.now.entries ++ batch.now)) }
-    {
-        let mut spans = Vec::new(alloc);
-        let Ok(()) = add_spans(&mut spans, batch) else {
-            return Err(StoreFault::Memory);
-        };
-        self.check(alloc, &spans)?;
-        let Ok(count) = u32::try_from(batch.len()) else {
-            return Err(StoreFault::Full);
-        };
-        match first_of(self.entries.len(), count) {
-            Some(first) => Ok(Entered { first, count }),
-            None => Err(StoreFault::Full),
-        }
     }
 
     /// Enters all of a batch or none: S6, S14. All memory is allocated before the driver changes.
@@ -352,24 +263,27 @@ impl Row {
         lines: &[EntryLine],
     ) -> Result<Entered, StoreFault>
         requires { All IsEntryLine lines.now }
-        ensures told { MatchResult result (λ done. enter_own (batch_of lines.now) self.old ≡ Ok (done.first, self.new)) (IsStepFault (enter_own (batch_of lines.now) self.old)) }
+        ensures step { IsOwnStep (λ done. done.first) (enter_own (batch_of lines.now)) self.old self.new result }
         ensures count { IfOk result (λ done. done.count ≡ length lines.now) }
-        ensures number { self.new.number ≡ self.old.number }
-        ensures err { OnErr result (self.new ≡ self.old) }
     {
-        let Ok(mut batch) = hours_of(alloc, lines) else {
-            return Err(StoreFault::Memory);
+        let mut batch = hours_of(alloc, lines)?;
+        let mut spans = Vec::new(alloc);
+        add_spans(&mut spans, &batch)?;
+        self.check(alloc, &spans)?;
+        let Ok(count) = u32::try_from(batch.len()) else {
+            return Err(StoreFault::Full);
         };
-        let entered = self.numbers_for(alloc, &batch)?;
-        let Ok(()) = self.entries.append(&mut batch) else {
-            return Err(StoreFault::Memory);
+        let Some(first) = first_number(self.entries.len() as u32, count) else {
+            return Err(StoreFault::Full);
         };
-        Ok(entered)
+        self.entries.append(&mut batch)?;
+        Ok(Entered { first, count })
     }
 
     /// Returns the place of an entry, if it can be withdrawn: S7, S8.
     fn entered_place(&self, number: u32) -> Result<usize, StoreFault>
-        ensures { MatchResult result (IsEnteredAt self.now.entries number) (λ fault. withdraw_own number self.now ≡ Err fault) }
+        ensures told { MatchResult result (IsEnteredAt self.now.entries number) (λ fault. withdraw_own number self.now ≡ Err fault) }
+        ensures of_no_file { IsOfNoFile result }
     {
         let Some(place) = number.checked_sub(1) else {
             return Err(StoreFault::UnknownEntry);
@@ -386,7 +300,9 @@ impl Row {
     /// Fails if an entry from number `first` to `last` can't be withdrawn, with the fault of the least such number: S7, S8.
     fn check_range(&self, first: u32, last: u32) -> Result<(), StoreFault>
         requires { first ≤ last }
-        ensures { MatchResult result (λ _. AreEntered self.now.entries first last) (λ fault. withdraw_from first (last + 1 - first) self.now ≡ Err fault) }
+        ensures told { MatchResult result (λ _. AreEntered self.now.entries first last)
+            (λ fault. withdraw_from first (last + 1 - first) self.now ≡ Err fault) }
+        ensures of_no_file { IsOfNoFile result }
     {
         for number in first..=last {
             if let Err(fault) = self.entered_place(number) {
@@ -421,9 +337,7 @@ impl Row {
     /// refusal changes nothing.
     pub(crate) fn withdraw(&mut self, first: u32, last: u32) -> Result<(), StoreFault>
         requires { first ≤ last }
-        ensures told { MatchResult result (λ _. withdraw_from first (last + 1 - first) self.old ≡ Ok (tt, self.new)) (IsStepFault (withdraw_from first (last + 1 - first) self.old)) }
-        ensures number { self.new.number ≡ self.old.number }
-        ensures err { OnErr result (self.new ≡ self.old) }
+        ensures { IsOwnStep (λ _. tt) (withdraw_from first (last + 1 - first)) self.old self.new result }
     {
         if let Err(fault) = self.check_range(first, last) {
             return Err(fault);
@@ -456,45 +370,43 @@ impl Row {
         self.holder.as_slice() == holder
     }
 
-    /// Sets the day from which the driver is examined.
-    pub(crate) fn set_base(&mut self, base: Day)
-        ensures { self.new ≡ record self.old { base = base } }
+    /// Sets the day from which the driver is examined: S9.
+    pub(crate) fn rebase(&mut self, base: Day) -> Result<(), StoreFault>
+        ensures { IsOwnStep (λ _. tt) (rebase_own base) self.old self.new result }
     {
+        if !is_monday(base) {
+            return Err(StoreFault::NotMonday);
+        }
         self.base = base;
+        Ok(())
     }
 
     /// Sets the driver's key.
-    pub(crate) fn set_key(&mut self, key: String)
-        ensures { self.new ≡ record self.old { key = string_bytes key } }
+    pub(crate) fn rekey(&mut self, alloc: Global, key: &str) -> Result<(), StoreFault>
+        ensures { IsOwnStep (λ _. tt) (rekey_own key.now) self.old self.new result }
     {
-        self.key = key;
+        self.key = String::from_str(alloc, key)?;
+        Ok(())
     }
 
     /// Sets the driver's name.
-    pub(crate) fn set_name(&mut self, name: String)
-        ensures { self.new ≡ record self.old { name = string_bytes name } }
+    pub(crate) fn rename(&mut self, alloc: Global, name: &str) -> Result<(), StoreFault>
+        ensures { IsOwnStep (λ _. tt) (rename_own name.now) self.old self.new result }
     {
-        self.name = name;
+        self.name = String::from_str(alloc, name)?;
+        Ok(())
     }
 }
 
-/// Returns the first of `count` new numbers after `given` numbers were given out: S14.
-fn first_of(given: usize, count: u32) -> Option<u32>
-    ensures { result ≡ next_number given count }
+/// Makes the line of spans that give no minute two marks.
+fn agreed_line(alloc: Global, spans: &[Span]) -> Result<Line, AllocError>
+    requires { (m : ℕ) → ¬ (Conflicts (Gives spans.now) m) }
+    ensures { IfOk result (IsCanonicalOf (Gives spans.now)) }
 {
-    let Ok(given) = u32::try_from(given) else {
-        return None;
-    };
-    first_number(given, count)
-}
-
-/// Returns false for the fault of spans that contradict; such spans aren't all given already. Fails if the fault is out of memory.
-fn differs(fault: LineFault) -> Result<bool, AllocError>
-    ensures { MatchResult result (λ given. (given ≡ false) × (fault ≢ NoMemory)) (λ _. fault ≡ NoMemory) }
-{
-    match fault {
-        LineFault::Memory => Err(AllocError),
-        _ => Ok(false),
+    match line_of(alloc, spans) {
+        Ok(line) => Ok(line),
+        Err(SpanFault::Memory) => Err(AllocError),
+        Err(SpanFault::Contradiction(_)) => unreachable!(),
     }
 }
 
@@ -503,21 +415,12 @@ fn gain_fault(fault: LineFault) -> StoreFault
     requires { (place : ℕ) → fault ≢ LineFault.EmptySpan place }
     ensures contradiction { (m : ℕ) → fault ≡ LineFault.Contradiction m → result ≡ StoreFault.Contradiction m }
     ensures memory { fault ≡ LineFault.Memory → result ≡ StoreFault.Memory }
+    ensures of_no_file { IsOfNoFile {A = Unit {0}} (Err result) }
 {
     match fault {
         LineFault::Contradiction(minute) => StoreFault::Contradiction(minute),
         LineFault::EmptySpan(_) => unreachable!(),
         LineFault::Memory => StoreFault::Memory,
-    }
-}
-
-/// Converts the fault of spans that don't contradict: it is out of memory.
-fn no_memory(fault: SpanFault) -> AllocError
-    requires { fault ≡ SpanFault.Memory }
-{
-    match fault {
-        SpanFault::Memory => AllocError,
-        SpanFault::Contradiction(_) => unreachable!(),
     }
 }
 

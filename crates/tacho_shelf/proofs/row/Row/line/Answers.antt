@@ -1,18 +1,17 @@
-use Rattle.std.proofs.Common.{◌≡◌, ◌∙◌, List, subst}
+use Rattle.std.proofs.Common.{◌≡◌, ◌∙◌, ℕ, List, sym, subst}
 use Rattle.tacho_time.specs.declared.span.Span.{Span}
-use Rattle.tacho_time.specs.Spans.{Gives, IsCanonicalOf}
-use Rattle.tacho_time.specs.Merge.{IsFirstFault}
+use Rattle.tacho_time.specs.Spans.{Gives, IsCanonicalOf, Conflicts}
 use Rattle.tacho_state.specs.State.{held_spans}
-use Rattle.tacho_shelf.proofs.RowLemmas.{no_conflict}
+use Rattle.tacho_shelf.proofs.RowLemmas.{line_marks}
 use Rattle.tacho_shelf.proofs.row.Row.line.Goals as goal
 
-pub returns-in-Ok : goal.returns-in-Ok
-returns-in-Ok c =
+pub agreed_line-requires : goal.agreed_line-requires
+agreed_line-requires c =
     let all : c.deref.result.now ≡ held_spans c.args.self.now = c.deref.ensures.value ∙ c.in_ok-spans.ensures.held in
-    subst (λ (xs : List Span). IsCanonicalOf (Gives xs) c.in-Ok.line) all c.in-Ok.ensures
+    subst (λ (xs : List Span). (m : ℕ) → ¬ (Conflicts (Gives xs) m)) (sym all) c.in_ok-spans.ensures.kept.agreed
 
-pub no_memory-requires : goal.no_memory-requires
-no_memory-requires c =
+pub returns : goal.returns
+returns c =
     let all : c.deref.result.now ≡ held_spans c.args.self.now = c.deref.ensures.value ∙ c.in_ok-spans.ensures.held in
-    no_conflict (Gives (held_spans c.args.self.now)) c.in-Err.fault c.in_ok-spans.ensures.kept.agreed (subst (λ
-    (xs : List Span). IsFirstFault (Gives xs) c.in-Err.fault) all c.in-Err.ensures)
+    let line = subst (λ (xs : List Span). IsCanonicalOf (Gives xs) c.in_ok-agreed_line.field-0) all c.in_ok-agreed_line.ensures in
+    record { line = line; marks = line_marks c.args.self.now c.in_ok-agreed_line.field-0 line }
