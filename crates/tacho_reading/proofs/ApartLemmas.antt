@@ -19,6 +19,7 @@ use Rattle.tacho_tables.specs.Tables.{Tables, IsLatest, is_before, is_begun, is_
 use Rattle.tacho_reading.specs.Standing.{TablesRepresent, IsReadNear, row_span, spans_of}
 use Rattle.tacho_reading.specs.Apart.{AreAside, AreRowsApart, driver_rows, near_from}
 use Rattle.tacho_reading.proofs.NearRowLemmas.{card_kept, held_kept}
+use Rattle.tacho_reading.proofs.PassingLemmas.{filter_both}
 
 -- ---- rows that are apart
 
@@ -156,26 +157,10 @@ from_some start past xs r h one latest x c = go (nat_lt r.start past && nat_lt s
 
 -- ---- the rows of a driver
 
--- filtering the rows by driver and by another test filters the driver's rows by that test
-own_filter : (n : ℕ) (q : SpanRow → Bool) (rows : List SpanRow) → filter (λ r. (r.driver == n) && q r) rows ≡ filter q (driver_rows n rows)
-own_filter n q [] = refl
-own_filter n q (r ∷ rows) = go (r.driver == n) (own_filter n q rows) where
-  own : (v : Bool) → filter (λ r. (r.driver == n) && q r) rows ≡ filter q (driver_rows n rows)
-      → cond v (r ∷ filter (λ r. (r.driver == n) && q r) rows) (filter (λ r. (r.driver == n) && q r) rows)
-      ≡ cond v (r ∷ filter q (driver_rows n rows)) (filter q (driver_rows n rows))
-  own true e = ap (λ (x : List SpanRow). r ∷ x) e
-  own false e = e
-
-  go : (o : Bool) → filter (λ r. (r.driver == n) && q r) rows ≡ filter q (driver_rows n rows)
-      → cond (o && q r) (r ∷ filter (λ r. (r.driver == n) && q r) rows) (filter (λ r. (r.driver == n) && q r) rows)
-      ≡ filter q (cond o (r ∷ driver_rows n rows) (driver_rows n rows))
-  go true e = own (q r) e
-  go false e = e
-
 module _ (n start past : ℕ) (rows : List SpanRow) (apart : AreRowsApart (driver_rows n rows)) where
   -- the rows before the range are the driver's rows before it
   before_own : filter (is_before n start) rows ≡ filter (λ r. nat_lt r.start start) (driver_rows n rows)
-  before_own = own_filter n (λ r. nat_lt r.start start) rows
+  before_own = filter_both (is_of n) (λ r. nat_lt r.start start) rows
 
   -- with the latest row before the range, `near_from` is such a `from`
   pub from_found : (b : Option StoredSpan) → MatchOption b (filter (is_before n start) rows ≡ [])

@@ -2,6 +2,7 @@ pub mod OrderedLemmas
 pub mod RowLemmas
 pub mod FaultyLemmas
 pub mod StateLemmas
+mod PassingLemmas
 pub mod DriverRowLemmas
 mod KeyLemmas
 pub mod NearRowLemmas
@@ -10,6 +11,7 @@ pub mod EntryLemmas
 pub mod MappedLemmas
 pub mod LookUpLemmas
 pub mod SeenLemmas
+pub mod TellLemmas
 mod ReadingLemmas
 mod ExtentLemmas
 mod TimelineLemmas

@@ -1,5 +1,5 @@
 -- A driver's entries are listed in the order of their numbers.
-use Rattle.std.proofs.Common.{◌≡◌, ◌∙◌, ℕ, ◌+◌, ◌<◌, ◌⊎◌, ◌==◌, Bool, true, false, cond, not, List, [], ◌∷◌, map, filter, Ordering, Less, Some, Result, Ok, Err, IfOk, IfErr, refl, sym, ap, subst, arith}
+use Rattle.std.proofs.Common.{◌≡◌, ◌∙◌, ℕ, ◌+◌, ◌<◌, ◌==◌, Bool, true, false, cond, not, List, [], ◌∷◌, map, filter, Ordering, Less, Some, Ok, refl, sym, ap, subst, arith}
 use Rattle.std.specs.Cmp.{IsTotalOrder}
 use Rattle.std.specs.List.{AllByRecursion}
 use Rattle.std.specs.List.Sorted.{IsPermutation, IsSorted}
@@ -11,17 +11,13 @@ use Rattle.sqlite_keyed.proofs.SortLemmas.{sorted_unique}
 use Rattle.sqlite_trees.specs.Tree.{IsAscending}
 use Rattle.tacho_time.specs.declared.span.Activity.{Activity}
 use Rattle.tacho_state.specs.declared.entry.Entry.{Entry as Listed}
-use Rattle.tacho_state.specs.declared.fault.StoreFault.{StoreFault}
-use Rattle.tacho_state.specs.declared.fault.StoreFault.TheVariants.{Memory, Store}
-use Rattle.tacho_state.specs.Acts.{Answers}
 use Rattle.tacho_state.specs.State.{Driver, Entry, State, driver_of}
-use Rattle.tacho_state.specs.Steps.{numbered_from, entries_reading}
+use Rattle.tacho_state.specs.Steps.{numbered_from, entries_reading, reading_of}
 use Rattle.tacho_tables.specs.Rows.{EntryRow}
 use Rattle.tacho_tables.specs.Tables.{Tables, HasTables, ListedEntry, is_entry_of, listed_entry}
 use Rattle.tacho_reading.specs.Standing.{Represents, entry_row, rows_of_entries, listed_as}
 use Rattle.tacho_state.proofs.NumberLemmas.{activity_back}
 use Rattle.tacho_reading.proofs.EntryLemmas.{entry_all}
-use Rattle.tacho_reading.proofs.TimelineLemmas.{gave_up}
 
 -- ---- order
 
@@ -84,15 +80,11 @@ rows_listed n i (e ∷ es) =
 -- a driver's rows ordered by number are listed as the driver's entries
 pub entries_told : (db : Trees) (n : ℕ) (s : State) (d : Driver) (found : List ListedEntry) → Represents db s → driver_of n s ≡ Some d
     → ((a : Tables) → HasTables db a → IsPermutation (map listed_entry (filter (is_entry_of n) a.entries)) found)
-    → ((a : Tables) → HasTables db a → IsSorted by_number found) → map listed_as found ≡ numbered_from 1 d.entries
+    → ((a : Tables) → HasTables db a → IsSorted by_number found) → entries_reading n s ≡ Ok (map listed_as found)
 unfolding Represents
 entries_told db n s d found (t, stand, of) is same sorted =
     let rows : IsPermutation (map listed_entry (rows_of_entries n 1 d.entries)) found =
     subst (λ (x : List EntryRow). IsPermutation (map listed_entry x) found) (entry_all t s n d of is) (same t stand) in
-    ap (map listed_as) (sorted_unique by_number total _ found (rows_rise n 1 d.entries) rows (sorted t stand)) ∙ rows_listed n 1 d.entries
-
--- these entries are answered, or the call gave up
-pub entries_answer : {V : Type 0} (items : V → List Listed) (n : ℕ) (s : State) (d : Driver) (r : Result V StoreFault) → driver_of n s ≡ Some d
-    → IfOk r (λ v. items v ≡ numbered_from 1 d.entries) → IfErr r (λ f. (f ≡ Memory) ⊎ (f ≡ Store)) → Answers items r (entries_reading n s)
-entries_answer items n s d (Ok v) is told up = rw is (ap Ok (sym told))
-entries_answer items n s d (Err f) is told up = gave_up items f (entries_reading n s) up
+    ap (reading_of (λ (d : Driver). Ok (numbered_from 1 d.entries))) is
+    ∙ ap Ok (sym (rows_listed n 1 d.entries)
+    ∙ ap (map listed_as) (sym (sorted_unique by_number total _ found (rows_rise n 1 d.entries) rows (sorted t stand))))

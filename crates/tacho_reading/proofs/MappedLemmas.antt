@@ -27,11 +27,3 @@ answers_mapped (Ok y) t told cases is = subst (λ u. Answers (λ y. y) u told) (
 answers_mapped (Err e) (Ok x) told cases is = absurd cases
 answers_mapped (Err table.Memory) (Err f) told cases is = subst (λ g. Answers (λ y. y) (Err g) told) (sym cases) tt
 answers_mapped (Err table.Store) (Err f) told cases is = subst (λ g. Answers (λ y. y) (Err g) told) (sym cases) tt
-
--- a call on the tables that ends a reading answers what it found, or it gives up
-pub answers_found : {A : Type 0} (r : Result A TableFault) (t : Result A StoreFault) (told : Result A StoreFault)
-    → MatchResult r (λ y. t ≡ Ok y) (λ e. IsErrAnd t (λ f. f ≡ fault_of_tables e)) → IfOk r (λ y. told ≡ Ok y) → Answers (λ y. y) t told
-answers_found (Ok y) t told cases is = subst (λ u. Answers (λ y. y) u told) (sym cases) is
-answers_found (Err e) (Ok x) told cases is = absurd cases
-answers_found (Err table.Memory) (Err f) told cases is = subst (λ g. Answers (λ y. y) (Err g) told) (sym cases) tt
-answers_found (Err table.Store) (Err f) told cases is = subst (λ g. Answers (λ y. y) (Err g) told) (sym cases) tt

@@ -13,7 +13,7 @@ use Rattle.tacho_tables.specs.Rows.{SpanRow}
 use Rattle.tacho_tables.specs.Tables.{Tables, is_row_near, span_of}
 use Rattle.tacho_reading.specs.Standing.{TablesRepresent, spans_of, stored_span, IsReadNear}
 use Rattle.tacho_reading.proofs.RowLemmas.{near_spans}
-use Rattle.tacho_reading.proofs.DriverRowLemmas.{first_or_rest, none_there}
+use Rattle.tacho_reading.proofs.PassingLemmas.{first_or_rest, none_there}
 use Rattle.tacho_state.proofs.PutLemmas.{found_number}
 use Rattle.tacho_reading.proofs.StateLemmas.{found_of}
 

@@ -1,6 +1,6 @@
 -- What readings answer, from what look-ups find.
 use Rattle.std.proofs.Common.{◌≡◌, ◌∙◌, ℕ, List, [], filter, Option, Some, None, Result, Ok, Err, refl, sym, ap}
-use Rattle.std.specs.Prelude.{MatchOption, Contains, ok_or}
+use Rattle.std.specs.Prelude.{MatchOption, MatchResult, Contains, ok_or}
 use Rattle.sqlite.specs.Tree.{Trees}
 use Rattle.tacho_state.specs.declared.fault.StoreFault.{StoreFault}
 use Rattle.tacho_state.specs.declared.fault.StoreFault.TheVariants.{UnknownDriver, UnknownDownload}
@@ -10,7 +10,10 @@ use Rattle.tacho_state.specs.Steps.{reading_of, owner, key_reading, file_of, fil
 use Rattle.tacho_tables.specs.Rows.{DownloadRow}
 use Rattle.tacho_tables.specs.declared.rows.StoredFile.{StoredFile}
 use Rattle.tacho_tables.specs.Tables.{Tables, HasTables, is_download}
+use Rattle.tacho_reading.specs.Finding.{IsOfDriver}
+use Rattle.tacho_reading.specs.Kept.{HasGivenUp}
 use Rattle.tacho_reading.specs.Standing.{Represents}
+use Rattle.tacho_reading.proofs.LookUpLemmas.{answers_given_up}
 use Rattle.tacho_reading.proofs.DownloadLemmas.{download_none, download_some}
 
 -- S4: there is no such driver
@@ -26,10 +29,11 @@ key_told bytes n s None none = nobody n s (λ d. Ok d.key) none
 key_told bytes n s (Some it) (d, is, key) = rw (is, key) refl
 
 -- the number of the driver with this key, if there is one
-pub owner_told : (key : List ℕ) (s : State) (found : Option ℕ)
-    → MatchOption found (driver_with_key key s ≡ None) (λ n. (d : Driver) × (driver_with_key key s ≡ Some d) × (n ≡ d.number)) → owner key s ≡ Ok found
-owner_told key s None none = rw none refl
-owner_told key s (Some n) (d, is, number) = rw (is, number) refl
+pub owner_told : (key : List ℕ) (s : State) (r : Result (Option ℕ) StoreFault)
+    → MatchResult r (IsOfDriver (λ n d. n ≡ d.number) (driver_with_key key s)) HasGivenUp → Answers (λ found. found) r (owner key s)
+owner_told key s (Ok None) none = rw none refl
+owner_told key s (Ok (Some n)) (d, is, number) = rw (is, number) refl
+owner_told key s (Err fault) up = answers_given_up (λ found. found) fault (owner key s) up
 
 -- S10, or the bytes of the file
 pub file_told : (db : Trees) (n number : ℕ) (s : State) (found : Option StoredFile) (d : Driver) → driver_of n s ≡ Some d → Represents db s

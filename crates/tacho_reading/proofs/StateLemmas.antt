@@ -6,7 +6,7 @@ use Rattle.tacho_state.specs.Content.{AreRead}
 use Rattle.tacho_state.specs.Distinct.{HasNot, AreDistinct}
 use Rattle.tacho_state.specs.Disjoint.{Keeps}
 use Rattle.tacho_state.specs.State.{Driver, State, IsDownloaded, Held, driver_of, put}
-use Rattle.tacho_state.proofs.EqualLemmas.{eq_false, eq_true}
+use Rattle.tacho_state.proofs.EqualLemmas.{eq_false, eq_not, eq_true}
 use Rattle.tacho_state.proofs.DistinctLemmas.{IsKeyFreeFor, distinct_put, found_head, found_not, found_tail, own_key, put_has}
 use Rattle.tacho_tables.specs.Rows.{DriverRow}
 use Rattle.tacho_tables.specs.Tables.{Tables}
@@ -93,31 +93,36 @@ put_is t u n d old s h e k same r own f marked =
 
 -- ---- rows of drivers
 
--- an update that changes only one driver's row keeps the rows of the others
-others_stay : (f : DriverRow → DriverRow) (n : ℕ) (s : State) → ((x : DriverRow) → x.driver ≢ n → f x ≡ x) → HasNot n s
-    → map f (map driver_columns s) ≡ map driver_columns s
-others_stay f n [] h o = refl
-others_stay f n (x ∷ s) h o =
-    ap (λ (y : DriverRow). y ∷ map f (map driver_columns s)) (h (driver_columns x) o.0)
-    ∙ ap (λ (y : List DriverRow). driver_columns x ∷ y) (others_stay f n s h o.1)
+-- the row of the driver with a number is updated, and no other
+abbrev pub updated : ℕ → (DriverRow → DriverRow) → DriverRow → DriverRow
+updated n f r = cond (r.driver == n) (f r) r
 
--- it turns the old driver's row into the new driver's
+-- the rows of other drivers stay
+others_stay : (f : DriverRow → DriverRow) (n : ℕ) (s : State) → HasNot n s
+    → map (updated n f) (map driver_columns s) ≡ map driver_columns s
+others_stay f n [] o = refl
+others_stay f n (x ∷ s) o =
+    ap (λ b. cond b (f (driver_columns x)) (driver_columns x) ∷ map (updated n f) (map driver_columns s)) (eq_not x.number n o.0)
+    ∙ ap (λ (y : List DriverRow). driver_columns x ∷ y) (others_stay f n s o.1)
+
+-- an update that makes the old driver's row the new driver's puts the new driver in place of the old one
 pub rows_put : (f : DriverRow → DriverRow) (n : ℕ) (d old : Driver) (s : State) → driver_of n s ≡ Some old → d.number ≡ n → AreDistinct s
-    → f (driver_columns old) ≡ driver_columns d → ((x : DriverRow) → x.driver ≢ n → f x ≡ x)
-    → map f (map driver_columns s) ≡ map driver_columns (put d s)
-rows_put f n d old [] e k u r h = refl
-rows_put f n d old (x ∷ s) e k u r h = go (x.number == d.number) refl (λ w. rows_put f n d old s w k u.3 r h) where
-  go : (b : Bool) → (x.number == d.number) ≡ b → (driver_of n s ≡ Some old → map f (map driver_columns s) ≡ map driver_columns (put d s))
-      → f (driver_columns x) ∷ map f (map driver_columns s) ≡ map driver_columns (cond b (d ∷ s) (x ∷ put d s))
+    → f (driver_columns old) ≡ driver_columns d → map (updated n f) (map driver_columns s) ≡ map driver_columns (put d s)
+rows_put f n d old [] e k u r = refl
+rows_put f n d old (x ∷ s) e k u r = go (x.number == d.number) refl (λ w. rows_put f n d old s w k u.3 r) where
+  go : (b : Bool) → (x.number == d.number) ≡ b
+      → (driver_of n s ≡ Some old → map (updated n f) (map driver_columns s) ≡ map driver_columns (put d s))
+      → updated n f (driver_columns x) ∷ map (updated n f) (map driver_columns s) ≡ map driver_columns (cond b (d ∷ s) (x ∷ put d s))
   go true o more =
       let here : (x.number == n) ≡ true = subst (λ (j : ℕ). (x.number == j) ≡ true) k o in
       let same : x ≡ old = found_head n x old s e here in
-      ap (λ (y : DriverRow). y ∷ map f (map driver_columns s)) (ap (λ (y : Driver). f (driver_columns y)) same ∙ r)
+      ap (λ (y : DriverRow). y ∷ map (updated n f) (map driver_columns s))
+      (ap (λ b. cond b (f (driver_columns x)) (driver_columns x)) here ∙ ap (λ (y : Driver). f (driver_columns y)) same ∙ r)
       ∙ ap (λ (y : List DriverRow). driver_columns d ∷ y)
-      (others_stay f n s h (subst (λ (j : ℕ). HasNot j s) (eq_true x.number n here) u.0))
+      (others_stay f n s (subst (λ (j : ℕ). HasNot j s) (eq_true x.number n here) u.0))
   go false o more =
       let there : (x.number == n) ≡ false = subst (λ (j : ℕ). (x.number == j) ≡ false) k o in
-      ap (λ (y : DriverRow). y ∷ map f (map driver_columns s)) (h (driver_columns x) (eq_false x.number n there))
+      ap (λ (y : DriverRow). y ∷ map (updated n f) (map driver_columns s)) (ap (λ b. cond b (f (driver_columns x)) (driver_columns x)) there)
       ∙ ap (λ (y : List DriverRow). driver_columns x ∷ y) (more (found_tail n x old s e there))
 
 -- the card files of each driver are read

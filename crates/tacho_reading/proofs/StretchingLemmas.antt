@@ -39,7 +39,7 @@ use Rattle.tacho_reading.specs.Begun.{is_after, IsBegun}
 use Rattle.tacho_reading.specs.Standing.{Represents, row_span, stored_span, spans_of, IsReadNear}
 use Rattle.tacho_reading.specs.Stretching.{HasTakenOn, HasTakenRows, HasTakenHeld, is_stored_near}
 use Rattle.tacho_reading.proofs.LineWithinLemmas.{agreed_of}
-use Rattle.tacho_reading.proofs.NearRowLemmas.{permuted_gives, held_kept}
+use Rattle.tacho_reading.proofs.NearRowLemmas.{permuted_gives, held_kept, read_line}
 use Rattle.tacho_reading.proofs.ReportLemmas.{after_gives}
 use Rattle.tacho_reading.proofs.TakenLemmas.{HasGivenNext, IsSteady, given_none, given_more, steady_self, steady_then, told_split}
 
@@ -251,4 +251,4 @@ line_told db n start past s b was pass before near line (t, stand, of) begun non
     (near_read n from start past t.held f.onward (omega arith)
     (subst (λ (xs : List SpanRow). IsPermutation xs f.onward) (begun.rows t stand of) f.are_onward.same)) in
     subst (λ (o : Option Driver). IfSome o (λ d. AgreeWithin start past line (held_spans d))) (sym begun.is)
-    (agreed_of t s n d start past near line of begun.is read canonical)
+    (agreed_of t s n d start past line of begun.is (read_line t.held n start past near line read canonical))

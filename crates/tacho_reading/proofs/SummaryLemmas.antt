@@ -1,12 +1,12 @@
 -- All drivers are listed in the order of their numbers.
-use Rattle.std.proofs.Common.{◌≡◌, ◌∙◌, ◌⊎◌, ℕ, List, [], ◌∷◌, map, Option, Some, None, Result, Ok, Err, IfOk, IfErr, refl, sym, ap, subst}
+use Rattle.std.proofs.Common.{◌≡◌, ◌∙◌, ℕ, List, [], ◌∷◌, map, Option, Some, None, Result, Ok, Err, IfOk, refl, sym, ap, subst}
 use Rattle.std.specs.Prelude.{IfSome, ok_or}
 use Rattle.std.specs.List.Sorted.{IsPermutation}
 use Rattle.std.specs.Ordering.{is_lt, nat_cmp}
 use Rattle.std.proofs.lemmas.List.Sorted.{IsPermutation-map}
 use Rattle.sqlite.specs.Tree.{Trees}
 use Rattle.tacho_state.specs.declared.fault.StoreFault.{StoreFault}
-use Rattle.tacho_state.specs.declared.fault.StoreFault.TheVariants.{Memory, Store}
+use Rattle.tacho_state.specs.declared.fault.StoreFault.TheVariants.{Store}
 use Rattle.tacho_state.specs.declared.summary.DriverSummary.{DriverSummary}
 use Rattle.tacho_state.specs.Acts.{Answers}
 use Rattle.tacho_state.specs.State.{Driver, State, driver_of}
@@ -17,7 +17,6 @@ use Rattle.tacho_tables.specs.Rows.{DriverRow}
 use Rattle.tacho_tables.specs.Tables.{AreListed, HasTables, ListedDriver, Tables, listed_driver, told_driver}
 use Rattle.tacho_reading.specs.Finding.{IsStored}
 use Rattle.tacho_reading.specs.Standing.{Represents, driver_columns, summary_of_listed}
-use Rattle.tacho_reading.proofs.TimelineLemmas.{gave_up}
 
 -- ---- what is read
 
@@ -55,9 +54,3 @@ driver_told n s d it (Some summary) is stored same =
     let told = rw (stored.number, stored.holder, stored.base, stored.downloads, stored.entries, stored.name) at same in
     rw is (ap Ok (sym told))
 driver_told n s d it None is stored same = tt
-
--- the call answered, or it gave up
-pub drivers_answer : {V : Type 0} (r : Result V StoreFault) → IfErr r (λ f. (f ≡ Memory) ⊎ (f ≡ Store))
-    → Answers {B = Unit {0}} (λ _. tt) r (Ok tt)
-drivers_answer {V = V} (Ok v) up = refl
-drivers_answer {V = V} (Err f) up = gave_up {A = V} (λ _. tt) f (Ok tt) up

@@ -9,7 +9,7 @@ use Rattle.tacho_time.specs.Spans.{Gives, IsCanonicalOf}
 use Rattle.tacho_line.specs.Line.{mark_at}
 use Rattle.tacho_line.proofs.LineLemmas.{line_map}
 use Rattle.tacho_state.specs.State.{Driver, State, held_mark, driver_of}
-use Rattle.tacho_state.specs.Steps.{line_reading}
+use Rattle.tacho_state.specs.Steps.{line_reading, reading_of}
 use Rattle.tacho_state.specs.Acts.{Answers, IsAnswered}
 use Rattle.tacho_state.specs.declared.fault.StoreFault.{StoreFault}
 use Rattle.tacho_state.specs.declared.fault.StoreFault.TheVariants.{Memory, Store}
@@ -49,7 +49,7 @@ line_is d helds line of held m = same_option (mark_at line m) (held_mark d m) (�
 pub line_told : (db : Trees) (n : ℕ) (s : State) (d : Driver) (found : List StoredSpan) (line : List Span) → Represents db s
     → driver_of n s ≡ Some d
     → ((a : Tables) → HasTables db a → IsPermutation (map span_of (filter (is_of n) a.held)) found)
-    → IsCanonicalOf (Gives (map stored_span found)) line → mark_at line ≡ held_mark d
+    → IsCanonicalOf (Gives (map stored_span found)) line → line_reading n s ≡ Ok (mark_at line)
 unfolding Represents
 line_told db n s d found line (t, stand, of) is read canonical =
     let keeps = held_kept t s n d of is in
@@ -60,7 +60,7 @@ line_told db n s d found line (t, stand, of) is read canonical =
     let held = held_map d (spans_of n t.held) m k keeps in
     let kept = keeps.same m k in
     (λ g. held.0 (kept.0 (permuted_gives _ _ m k (IsPermutation-sym _ _ rows) g)), λ e. permuted_gives _ _ m k rows (kept.1 (held.1 e))))
-    in λ i m. each m i
+    in ap (reading_of (λ (d : Driver). Ok (held_mark d))) is ∙ ap Ok (sym (λ i m. each m i))
 
 -- a call that gave up meets every step's answer
 pub gave_up : {A B : Type 0} (view : A → B) (f : StoreFault) (told : Result B StoreFault) → (f ≡ Memory) ⊎ (f ≡ Store)
@@ -80,9 +80,8 @@ not_answered f (Ok x) up e is = let wrong = e.0 in cc
 not_answered {A = A} f (Err found) (inl up) e is = subst (λ g. IsAnswered {A = A} (Err g)) (e.1 ∙ up) is
 not_answered {A = A} f (Err found) (inr up) e is = subst (λ g. IsAnswered {A = A} (Err g)) (e.1 ∙ up) is
 
--- the timeline is answered, or the call gave up
-pub line_answers : (n : ℕ) (s : State) (d : Driver) (r : Result (List Span) StoreFault) → driver_of n s ≡ Some d
-    → IfOk r (λ line. mark_at line ≡ held_mark d) → IfErr r (λ f. (f ≡ Memory) ⊎ (f ≡ Store))
-    → Answers (λ line. mark_at line) r (line_reading n s)
-line_answers n s d (Ok line) is told up = rw is (ap Ok (sym told))
-line_answers n s d (Err f) is told up = gave_up (λ line. mark_at line) f (line_reading n s) up
+-- what was to be told is answered, or the call gave up
+pub told_or_gave_up : {A B : Type 0} (view : A → B) (r : Result A StoreFault) (told : Result B StoreFault) → IfOk r (λ x. told ≡ Ok (view x))
+    → IfErr r (λ f. (f ≡ Memory) ⊎ (f ≡ Store)) → Answers view r told
+told_or_gave_up view (Ok x) told is up = is
+told_or_gave_up view (Err f) told is up = gave_up view f told up

@@ -1,9 +1,17 @@
 -- Private to tacho_reading: A driver's rows of spans, and the start of those that have a minute in a range.
-use Rattle.std.specs.Prelude.{ℕ, ◌<◌, ◌≤◌, ◌⊎◌, ◌&&◌, nat_lt, List, [], ◌∷◌, filter, Option, Some, None, if◌then◌else◌}
+use Rattle.std.specs.Prelude.{◌≡◌, ℕ, ◌<◌, ◌≤◌, ◌⊎◌, ◌&&◌, nat_lt, List, [], ◌∷◌, filter, Option, Some, None, if◌then◌else◌}
 use Rattle.std.specs.List.{AllByRecursion}
+use Rattle.sqlite.specs.Tree.{Trees}
+use Rattle.tacho_time.specs.declared.span.Span.{Span}
+use Rattle.tacho_time.specs.Spans.{Gives, IsCanonicalOf}
+use Rattle.tacho_state.specs.Disjoint.{near}
+use Rattle.tacho_state.specs.State.{Driver, State, driver_of}
+use Rattle.tacho_tables.specs.declared.spans.SpanTable.{SpanTable}
 use Rattle.tacho_tables.specs.declared.rows.StoredSpan.{StoredSpan}
 use Rattle.tacho_tables.specs.Rows.{SpanRow}
-use Rattle.tacho_tables.specs.Tables.{is_of}
+use Rattle.tacho_tables.specs.Spans.{spans_in}
+use Rattle.tacho_tables.specs.Tables.{HasTables, Tables, is_of}
+use Rattle.tacho_reading.specs.Standing.{TablesRepresent, spans_of}
 
 -- one of the rows ends before the other begins
 abbrev pub AreAside : SpanRow → SpanRow → Type 0
@@ -22,3 +30,8 @@ driver_rows n rows = filter (is_of n) rows
 abbrev pub near_from : ℕ → ℕ → Option StoredSpan → ℕ
 near_from start past None = start
 near_from start past (Some s) = if (nat_lt s.start past && nat_lt start s.past) then s.start else start
+
+-- the line of a driver's rows near a range: that of what the driver's spans in the table give there
+pub record IsLineNear (db : Trees) (s : State) (table : SpanTable) (n start past : ℕ) (line : List Span) : Type 0 where
+  pub is : (t : Tables) → HasTables db t → TablesRepresent t s → (d : Driver) → driver_of n s ≡ Some d
+      → IsCanonicalOf (Gives (near start past (spans_of n (spans_in table t)))) line

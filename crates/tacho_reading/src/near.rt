@@ -1,14 +1,20 @@
 //! The rows of a driver near a range: those that have a minute in it; they aren't cut to it. No two rows share a minute, so at most one of
 //! them begins before the range. The others are found by their starts.
 
-ghost use Rattle.std.specs.Prelude.{◌≡◌};
+ghost use Rattle.std.specs.Prelude.{◌≡◌, MatchResult};
 ghost use Rattle.tacho_tables.specs.Calls.{Finds};
 ghost use Rattle.tacho_tables.specs.Spans.{spans_in};
 ghost use Rattle.tacho_reading.specs.Standing.{IsReadNear};
-ghost use Rattle.tacho_reading.specs.Apart.{AreRowsApart, driver_rows, near_from};
+ghost use Rattle.tacho_reading.specs.Apart.{AreRowsApart, IsLineNear, driver_rows, near_from};
+ghost use Rattle.tacho_reading.specs.Calls.{Tells};
+ghost use Rattle.tacho_reading.specs.Kept.{HasGivenUp};
 
+use crate::fault::store_fault;
+use crate::spans::line_of_stored;
 use sqlite::{Alter, Transaction};
 use std::alloc::Global;
+use tacho_line::Line;
+use tacho_state::StoreFault;
 use tacho_tables::{SpanTable, StoredSpan, TableFault, spans};
 
 /// Returns where the first row near a range begins, from the latest row that begins before the range.
@@ -42,4 +48,20 @@ pub fn rows_near<S: Alter>(
         first_start(before, start, past),
         past,
     )
+}
+
+/// Reads the line of a driver's rows near a range. A row that no archive writes, or two rows that contradict, are a store failure.
+pub fn line_near<S: Alter>(
+    alloc: Global,
+    tx: &mut Transaction<'_, S>,
+    table: SpanTable,
+    driver: u32,
+    start: u32,
+    past: u32,
+) -> Result<Line, StoreFault>
+    ensures { Tells S.Store tx.old.conn tx.new.conn result
+        (λ db s. MatchResult result (IsLineNear db s table driver start past) HasGivenUp) }
+{
+    let rows = rows_near(alloc, tx, table, driver, start, past).map_err(store_fault)?;
+    line_of_stored(alloc, &rows)
 }

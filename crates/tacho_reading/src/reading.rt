@@ -16,8 +16,8 @@ ghost use Rattle.tacho_reading.specs.Begun.{IsBegun};
 
 use crate::fault::store_fault;
 use crate::feeding::feed_held;
-use crate::finding::driver_with;
-use crate::near::{first_start, rows_near};
+use crate::finding::{driver_with, number_with_key};
+use crate::near::{first_start, line_near};
 use crate::read_within;
 use crate::spans::{line_of_stored, listed_entries, summaries_of, summary_of};
 use crate::stretching::take_held;
@@ -37,7 +37,7 @@ fn who_in<S: Alter>(tx: &mut Transaction<'_, S>, key: &[u8]) -> Result<Option<u3
     ensures { Tells S.Store tx.old.conn tx.new.conn result
         (λ _ s. Answers (λ found. found) result (owner key.now s)) }
 {
-    drivers::number_by_secret(tx, key).map_err(store_fault)
+    number_with_key(tx, key)
 }
 
 /// Reads the number of the driver with this key, if there is one.
@@ -201,7 +201,7 @@ fn line_within_in<S: Alter>(
         (λ _ s. Answers (λ _. tt) result (report_reading driver s) × IfOk result (IsHeldWithin driver start past s)) }
 {
     driver_with(tx, driver)?;
-    let rows = rows_near(
+    line_near(
         alloc,
         tx,
         SpanTable::Held,
@@ -209,8 +209,6 @@ fn line_within_in<S: Alter>(
         start.number(),
         past.number(),
     )
-    .map_err(store_fault)?;
-    line_of_stored(alloc, &rows)
 }
 
 /// Reads what a driver holds in a range: S4.

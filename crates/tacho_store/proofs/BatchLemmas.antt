@@ -86,14 +86,6 @@ entered_other t n first count batch gains j d = record {
   held = added_other j n t.held gains d;
 }
 
--- the driver's own row gets the count
-counted_own : (n count : ℕ) (r : DriverRow) → r.driver ≡ n → with_entries n count r ≡ record r { entries = count }
-counted_own n count r e = ap (λ b. cond b (record r { entries = count }) r) (subst (λ (k : ℕ). (k == n) ≡ true) (sym e) (eq_self n))
-
--- no other row changes
-counted_other : (n count : ℕ) (r : DriverRow) → r.driver ≢ n → with_entries n count r ≡ r
-counted_other n count r d = ap (λ b. cond b (record r { entries = count }) r) (eq_not r.driver n d)
-
 -- the tables represent the state after a batch, by the driver's own number
 entered_at : (t : Tables) (s : State) (d : Driver) (batch : List Entry) (line gains : List Span) (a b : ℕ) → TablesRepresent t s
     → driver_of d.number s ≡ Some d → AreFull batch → AreInRange a b (entered_spans batch)
@@ -106,10 +98,8 @@ entered_at t s d batch line gains a b h k w r l g =
     let next = with_batch batch d in
     put_is t (with_entered n (1 + length d.entries) count batch gains t) n next d s h k refl (record { key = refl; holder = refl })
     (ap (λ (x : List DriverRow). map (with_entries n count) x) h.drivers
-    ∙ rows_put (with_entries n count) n next d s k refl h.distinct
-    (counted_own n count (driver_columns d) refl
-    ∙ ap (λ (y : ℕ). record (driver_columns d) { entries = y }) (more_entries d.entries batch))
-    (λ x o. counted_other n count x o))
+    ∙ rows_put (λ r. record r { entries = count }) n next d s k refl h.distinct
+    (ap (λ (y : ℕ). record (driver_columns d) { entries = y }) (more_entries d.entries batch)))
     (entered_own t d batch line gains a b (found_of t n s d k h.each) w r l g)
     (λ j o. entered_other t n (1 + length d.entries) count batch gains j o)
     (record { card_spans = h.marked.card_spans; held = added_marks n t.held gains h.marked.held })

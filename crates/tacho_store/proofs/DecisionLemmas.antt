@@ -1,14 +1,11 @@
 -- What the tables have near a file's spans decides the import.
-use Rattle.std.proofs.Common.{◌≡◌, inl, inr, ℕ, ◌+◌, List, [], length, map, Option, Some, None, Result, Ok, Err, sym, ap, subst}
+use Rattle.std.proofs.Common.{◌≡◌, inl, inr, ℕ, ◌+◌, List, [], length, Option, Some, None, Result, Ok, Err, sym, ap, subst}
 use Rattle.std.specs.Prelude.{MatchOption, MatchResult, IsErr, IsErrAnd}
-use Rattle.sqlite.specs.Effect.{Database}
-use Rattle.sqlite.specs.State.{State as Sqlite, IsUnchanged}
 use Rattle.sqlite.specs.Tree.{Trees}
 use Rattle.tacho_time.specs.declared.span.Span.{Span}
 use Rattle.tacho_time.specs.Spans.{Gives, IsCanonicalOf}
 use Rattle.tacho_line.specs.Line.{AreGains}
 use Rattle.tacho_state.specs.declared.fault.StoreFault.{StoreFault}
-use Rattle.tacho_state.specs.declared.fault.StoreFault.TheVariants.{Memory, Store}
 use Rattle.tacho_state.specs.declared.imported.Imported.{Imported}
 use Rattle.tacho_state.specs.declared.imported.Imported.TheVariants.{Repeated}
 use Rattle.tacho_state.specs.Acts.{Answers}
@@ -17,15 +14,15 @@ use Rattle.tacho_state.specs.Steps.{turn_of, import_own}
 use Rattle.tacho_state.specs.Disjoint.{AreInRange, HasNews, near}
 use Rattle.tacho_state.specs.State.{Driver, State, driver_of, put, with_download}
 use Rattle.tacho_state.proofs.StepLemmas.{repeated_import, contradicted_import, added_import, full_import}
-use Rattle.tacho_tables.specs.declared.rows.StoredSpan.{StoredSpan}
+use Rattle.tacho_tables.specs.declared.spans.SpanTable.TheVariants as table
 use Rattle.tacho_tables.specs.Tables.{Tables, HasTables}
-use Rattle.tacho_reading.specs.Standing.{Represents, TablesRepresent, spans_of, stored_span}
-use Rattle.tacho_reading.proofs.ApartLemmas.{card_apart, held_apart}
-use Rattle.tacho_reading.proofs.NearRowLemmas.{read_line, card_kept, held_kept}
+use Rattle.tacho_reading.specs.Apart.{IsLineNear}
+use Rattle.tacho_reading.specs.Kept.{HasGivenUp}
+use Rattle.tacho_reading.specs.Standing.{Represents, TablesRepresent, spans_of}
+use Rattle.tacho_reading.proofs.NearRowLemmas.{card_kept, held_kept}
 use Rattle.tacho_reading.specs.Finding.{IsFindingFault}
-use Rattle.tacho_reading.proofs.LookUpLemmas.{handed_on}
+use Rattle.tacho_reading.proofs.LookUpLemmas.{finding_as, given_up, handed_on}
 use Rattle.tacho_state.proofs.PutLemmas.{found_number}
-use Rattle.tacho_reading.proofs.LineWithinLemmas.{AreRead}
 use Rattle.tacho_store.specs.declared.news.News.{News}
 use Rattle.tacho_store.specs.News.{AreNews, IsNewsRefused}
 use Rattle.tacho_store.specs.Importing.{AreAdded, AreDecided}
@@ -74,18 +71,23 @@ module _ (db : Trees) (s : State) (n : ℕ) (d : Driver) (a b : ℕ) (spans : Li
       (card_kept t s n d of is) (held_kept t s n d of is) within card_near held_near it.2 it.3)
 
 -- the lines of the rows near the spans decide the import
-pub decided : (db : Trees) (s : State) (n : ℕ) (d : Driver) (a b : ℕ) (spans : List Span) (cards helds : List StoredSpan)
-    (card_line line : List Span) (r : Result (Option News) StoreFault) → Represents db s → driver_of n s ≡ Some d
-    → AreRead (λ t. t.card_spans) db n a b cards → AreRead (λ t. t.held) db n a b helds
-    → IsCanonicalOf (Gives (map stored_span cards)) card_line → IsCanonicalOf (Gives (map stored_span helds)) line → AreInRange a b spans
+pub decided : (db : Trees) (s : State) (n : ℕ) (d : Driver) (a b : ℕ) (spans card_line line : List Span) (r : Result (Option News) StoreFault)
+    → Represents db s → driver_of n s ≡ Some d → IsLineNear db s table.CardSpans n a b card_line → IsLineNear db s table.Held n a b line
+    → AreInRange a b spans
     → MatchResult r (λ found. MatchOption found (AreGains card_line spans [])
     (λ news. AreNews card_line line spans news.card_spans.items news.held.items)) (IsNewsRefused card_line line spans)
     → AreDecided db s n d spans r
 unfolding Represents
-decided db s n d a b spans cards helds card_line line r (t, stand, of) is card_read read card_of held_of within h =
-    by_lines db s n d a b spans is within t stand of card_line line
-    (read_line t.card_spans n a b cards card_line (card_read t stand (card_apart t s n d of is)) card_of)
-    (read_line t.held n a b helds line (read t stand (held_apart t s n d of is)) held_of) r h
+decided db s n d a b spans card_line line r (t, stand, of) is cards helds within h =
+    by_lines db s n d a b spans is within t stand of card_line line (cards.is t stand of d is) (helds.is t stand of d is) r h
+
+-- nothing is decided by a call that gave up
+pub undecided : (db : Trees) (s : State) (n : ℕ) (d : Driver) (spans : List Span) (fault : StoreFault) (r : Result (Option News) StoreFault)
+    → HasGivenUp fault → IsErr r × IsErrAnd r (λ found. found ≡ fault) → AreDecided db s n d spans r
+unfolding AreDecided
+undecided db s n d spans fault (Ok found) up e = let wrong = e.0 in cc
+undecided db s n d spans fault (Err found) up e = λ part file.
+    subst (λ f. IsFindingFault f (import_own part file spans d)) (sym e.1) (given_up fault (import_own part file spans d) up)
 
 -- a fault that is passed on is the import's answer
 pub handed_fault : (db : Trees) (s : State) (n : ℕ) (d : Driver) (spans : List Span) (fault : StoreFault) (r : Result Imported StoreFault)
@@ -93,11 +95,8 @@ pub handed_fault : (db : Trees) (s : State) (n : ℕ) (d : Driver) (spans : List
     → IsErr r × IsErrAnd r (λ found. found ≡ fault) → Answers (λ done. done) r (turn_of s (import_own part file spans d)).answer
 unfolding AreDecided
 handed_fault db s n d spans fault r part file h = handed_on (λ done. done) fault r (turn_of s (import_own part file spans d)).answer
-    (go fault (h part file)) where
-      go : (f : StoreFault) → IsFindingFault f (import_own part file spans d) → IsFindingFault f (turn_of s (import_own part file spans d)).answer
-      go Memory h = tt
-      go Store h = tt
-      go f h = ap (λ o. (turn_of s o).answer) h
+    (finding_as fault (import_own part file spans d) (turn_of s (import_own part file spans d)).answer
+    (λ is. ap (λ o. (turn_of s o).answer) is) (h part file))
 
 -- a file that gives nothing new is repeated
 pub is_repeated : (db : Trees) (s : State) (n : ℕ) (d : Driver) (spans : List Span) (found : Option News) → found ≡ None
@@ -112,8 +111,3 @@ pub is_new : (db : Trees) (s : State) (n : ℕ) (d : Driver) (spans : List Span)
     → AreAdded db s n d spans news.card_spans.items news.held.items
 unfolding AreDecided
 is_new db s n d spans found news is h = subst (λ o. AreDecided db s n d spans (Ok o)) is h
-
--- what is new stays new while nothing changes
-pub still_new : (old now : Sqlite) (s : State) (n : ℕ) (d : Driver) (spans cards helds : List Span) → IsUnchanged old now
-    → AreAdded old.now.trees s n d spans cards helds → AreAdded now.now.trees s n d spans cards helds
-still_new old now s n d spans cards helds same = subst (λ (w : Database). AreAdded w.trees s n d spans cards helds) (sym same.0.now_is)

@@ -1,21 +1,18 @@
 -- What a batch gives, what entering it answers, and what the tables represent after its writes.
 use Rattle.std.proofs.Common.{◌≡◌, ◌∙◌, get_or, ℕ, zero, suc, ◌+◌, ◌-◌, ◌<◌, ◌≤◌, ◌⊎◌, inl, inr, Bool, true, false, cond, List, [], ◌∷◌, length, map, Some, None, Result, Ok, Err, refl, sym, ap, subst, arith}
-use Rattle.std.specs.Prelude.{MatchResult, IsErr, IsErrAnd, nat_le}
+use Rattle.std.specs.Prelude.{MatchResult, nat_le}
 use Rattle.std.specs.List.{slice_get, slice_index_or, AllByRecursion}
 use Rattle.std.proofs.lemmas.Bool.Decides.{nat_tests}
 use Rattle.std.proofs.lemmas.List.{length-map}
 use Rattle.std.proofs.lemmas.List.Elements.{recursion_from_All}
 use Rattle.std.proofs.lemmas.Option.{slice_get_within, get_or_from_slice_get}
-use Rattle.sqlite.specs.Effect.{Database}
-use Rattle.sqlite.specs.State.{State as Sqlite, IsUnchanged}
 use Rattle.sqlite.specs.Tree.{Trees}
 use Rattle.tacho_time.specs.declared.span.Span.{Span}
 use Rattle.tacho_time.specs.declared.span.Mark.{Mark}
 use Rattle.tacho_time.specs.Spans.{Gives, IsCanonicalOf}
 use Rattle.tacho_line.specs.Line.{empty_from, first_empty, AreGains}
 use Rattle.tacho_state.specs.declared.fault.StoreFault.{StoreFault}
-use Rattle.tacho_state.specs.declared.fault.StoreFault.TheVariants.{Memory, Store, UnknownDriver, Full}
-use Rattle.tacho_state.specs.Acts.{Answers}
+use Rattle.tacho_state.specs.declared.fault.StoreFault.TheVariants.{Memory, UnknownDriver, Full}
 use Rattle.tacho_state.specs.Batch.{Hours, IsEntryLine, AreHoursInOrder, IsBatch, entry_of, batch_of}
 use Rattle.tacho_state.specs.Disjoint.{AreInRange, near}
 use Rattle.tacho_state.specs.Limits.{next_number}
@@ -23,15 +20,15 @@ use Rattle.tacho_state.specs.State.{Driver, Entry, State, AreFull, driver_of, en
 use Rattle.tacho_state.specs.Steps.{Turn, turn_of, enter_own, enter_step, most_records}
 use Rattle.tacho_state.proofs.StepLemmas.{contradicted_batch, entered_batch, full_batch}
 use Rattle.tacho_tables.specs.declared.rows.StoredSpan.{StoredSpan}
+use Rattle.tacho_tables.specs.declared.spans.SpanTable.TheVariants.{Held}
 use Rattle.tacho_tables.specs.Rows.{SpanRow, EntryRow}
 use Rattle.tacho_tables.specs.Tables.{Tables, HasTables, entered_row, row_of}
-use Rattle.tacho_reading.specs.Standing.{Represents, Follows, TablesRepresent, spans_of, span_row, entry_row, rows_of_entries, stored_span}
+use Rattle.tacho_reading.specs.Standing.{Represents, Follows, TablesRepresent, spans_of, span_row, entry_row, rows_of_entries}
 use Rattle.tacho_state.specs.Numbers.{activity_number}
-use Rattle.tacho_reading.specs.Finding.{IsFindingFault}
-use Rattle.tacho_reading.proofs.ApartLemmas.{held_apart}
-use Rattle.tacho_reading.proofs.LineWithinLemmas.{AreRead}
-use Rattle.tacho_reading.proofs.LookUpLemmas.{handed_on}
-use Rattle.tacho_reading.proofs.NearRowLemmas.{read_line, held_kept}
+use Rattle.tacho_reading.specs.Apart.{IsLineNear}
+use Rattle.tacho_reading.specs.Finding.{IsFindingFault, IsFound}
+use Rattle.tacho_reading.proofs.LookUpLemmas.{finding_as}
+use Rattle.tacho_reading.proofs.NearRowLemmas.{held_kept}
 use Rattle.tacho_store.specs.Entering.{AreNumbered, tables_after_batch}
 use Rattle.tacho_store.specs.News.{IsContradicted}
 use Rattle.tacho_store.proofs.BatchLemmas.{entered_is}
@@ -179,28 +176,21 @@ module _ (db : Trees) (s : State) (n : ℕ) (d : Driver) (a b : ℕ) (lines : Li
   by_gains : {V : Type 0} (items : V → List Span) (r : Result V StoreFault)
       → MatchResult r (λ gains. AreGains line (entered_spans (batch_of lines)) (items gains))
       (λ fault. (fault ≡ Memory) ⊎ IsContradicted line (entered_spans (batch_of lines)) fault)
-      → MatchResult r (λ gains. AreNumbered db s n d (batch_of lines) (items gains)) (λ fault. IsFindingFault fault (enter_own (batch_of lines) d))
-  by_gains items (Ok gains) h = are_numbered (items gains) h
-  by_gains items (Err fault) h = is_refused fault h
+      → IsFound (λ gains. AreNumbered db s n d (batch_of lines) (items gains)) (enter_own (batch_of lines) d) r
+  by_gains items (Ok gains) h = record { found = are_numbered (items gains) h; refused = tt }
+  by_gains items (Err fault) h = record { found = tt; refused = is_refused fault h }
 
--- the gains come from the rows that were read near the batch
-pub gained : (db : Trees) (s : State) (n : ℕ) (d : Driver) (a b : ℕ) (lines : List Hours) (spans : List Span)
-    (helds : List StoredSpan) (line : List Span) {V : Type 0} (items : V → List Span) (r : Result V StoreFault) → Represents db s
-    → driver_of n s ≡ Some d → IsBatch lines → spans ≡ entered_spans (batch_of lines)
-    → AreInRange a b (entered_spans (batch_of lines)) → AreRead (λ t. t.held) db n a b helds
-    → IsCanonicalOf (Gives (map stored_span helds)) line
+-- the gains come from the line of the rows near the batch
+pub gained : (db : Trees) (s : State) (n : ℕ) (d : Driver) (a b : ℕ) (lines : List Hours) (spans line : List Span)
+    {V : Type 0} (items : V → List Span) (r : Result V StoreFault) → Represents db s → driver_of n s ≡ Some d → IsBatch lines
+    → spans ≡ entered_spans (batch_of lines) → AreInRange a b (entered_spans (batch_of lines)) → IsLineNear db s Held n a b line
     → MatchResult r (λ gains. AreGains line spans (items gains)) (λ fault. (fault ≡ Memory) ⊎ IsContradicted line spans fault)
-    → MatchResult r (λ gains. AreNumbered db s n d (batch_of lines) (items gains)) (λ fault. IsFindingFault fault (enter_own (batch_of lines) d))
+    → IsFound (λ gains. AreNumbered db s n d (batch_of lines) (items gains)) (enter_own (batch_of lines) d) r
 unfolding Represents
-gained db s n d a b lines spans helds line items r (t, stand, of) is batch same within read canonical h =
-    by_gains db s n d a b lines is batch within t stand of line (read_line t.held n a b helds line (read t stand (held_apart t s n d of is)) canonical) items r
+gained db s n d a b lines spans line items r (t, stand, of) is batch same within near h =
+    by_gains db s n d a b lines is batch within t stand of line (near.is t stand of d is) items r
     (subst (λ (x : List Span). MatchResult r (λ gains. AreGains line x (items gains)) (λ fault. (fault ≡ Memory) ⊎ IsContradicted line x fault))
     same h)
-
--- what is new of the batch stays new while nothing changes
-pub still_numbered : (old now : Sqlite) (s : State) (n : ℕ) (d : Driver) (batch : List Entry) (gains : List Span) → IsUnchanged old now
-    → AreNumbered old.now.trees s n d batch gains → AreNumbered now.now.trees s n d batch gains
-still_numbered old now s n d batch gains same = subst (λ (w : Database). AreNumbered w.trees s n d batch gains) (sym same.0.now_is)
 
 -- ---- what the step answers
 
@@ -250,13 +240,8 @@ pub enters : (n : ℕ) (s : State) (batch : List Entry) (d : Driver) → driver_
     → enter_step n batch s ≡ turn_of s (enter_own batch d)
 enters n s batch d some = rw some refl
 
--- a fault that is passed on is the batch's answer
-pub handed_refusal : {A : Type 0} (view : A → ℕ) (n : ℕ) (s : State) (batch : List Entry) (d : Driver) (fault : StoreFault)
-    (r : Result A StoreFault) → driver_of n s ≡ Some d → IsFindingFault fault (enter_own batch d)
-    → IsErr r × IsErrAnd r (λ found. found ≡ fault) → Answers view r (enter_step n batch s).answer
-handed_refusal view n s batch d fault r some h = handed_on view fault r (enter_step n batch s).answer
-    (subst (λ (x : Turn ℕ). IsFindingFault fault x.answer) (sym (enters n s batch d some)) (go fault h)) where
-      go : (f : StoreFault) → IsFindingFault f (enter_own batch d) → IsFindingFault f (turn_of s (enter_own batch d)).answer
-      go Memory h = tt
-      go Store h = tt
-      go f h = ap (λ o. (turn_of s o).answer) h
+-- the batch's refusal is the answer
+pub batch_refused : (n : ℕ) (s : State) (batch : List Entry) (d : Driver) (fault : StoreFault) → driver_of n s ≡ Some d
+    → IsFindingFault fault (enter_own batch d) → IsFindingFault fault (enter_step n batch s).answer
+batch_refused n s batch d fault some = finding_as fault (enter_own batch d) (enter_step n batch s).answer
+    (λ is. ap (λ (x : Turn ℕ). x.answer) (enters n s batch d some) ∙ ap (λ o. (turn_of s o).answer) is)

@@ -1,16 +1,15 @@
 -- The driver for whom an import is, by what look-ups find.
-use Rattle.std.proofs.Common.{◌≡◌, ◌∙◌, ℕ, List, length, Bool, true, false, cond, not, Option, Some, None, Result, Ok, Err, refl, sym, ap, subst}
-use Rattle.std.specs.Prelude.{MatchOption, bytes_eq, IsErr, IsErrAnd}
+use Rattle.std.proofs.Common.{◌≡◌, ◌∙◌, ℕ, List, length, Bool, true, false, cond, not, Option, Some, None, Ok, Err, refl, sym, ap}
+use Rattle.std.specs.Prelude.{bytes_eq}
 use Rattle.tacho_state.specs.declared.fault.StoreFault.{StoreFault}
-use Rattle.tacho_state.specs.declared.fault.StoreFault.TheVariants.{UnknownDriver, NotYourCard, Memory, Store}
+use Rattle.tacho_state.specs.declared.fault.StoreFault.TheVariants.{UnknownDriver, NotYourCard}
 use Rattle.tacho_state.specs.declared.imported.Imported.{Imported}
 use Rattle.tacho_state.specs.State.{Driver, State, driver_of, holding}
 use Rattle.tacho_state.specs.Steps.{Content, Turn, own_turn, turn_of, refusal_turn, import_own, import_by_driver, import_step, known_driver}
 use Rattle.tacho_tables.specs.declared.rows.StoredDriver.{StoredDriver}
-use Rattle.tacho_reading.specs.Finding.{IsFindingFault, IsStored, IsDriver}
-use Rattle.tacho_reading.proofs.LookUpLemmas.{IsNumberOf, unknown_refuses}
-use Rattle.tacho_store.specs.Importing.{with_card, importer, IsImporterOf, IsImporter}
-use Rattle.tacho_store.specs.declared.import.Importer.{Importer}
+use Rattle.tacho_reading.specs.Finding.{IsFindingFault, IsNumberOf, IsStored}
+use Rattle.tacho_reading.proofs.LookUpLemmas.{finding_as}
+use Rattle.tacho_store.specs.Importing.{with_card, importer, IsImporterOf}
 
 -- if it isn't different, it is the same
 pub not_other : (b other : Bool) → other ≡ not b → other ≡ false → b ≡ true
@@ -24,10 +23,6 @@ is_other false other is said = refl
 
 -- ---- by number
 
--- nobody has the number: S4
-pub unknown_number : (n : ℕ) (holder : List ℕ) (s : State) → driver_of n s ≡ None → with_card holder (driver_of n s) ≡ Err UnknownDriver
-unknown_number n holder s none = ap (with_card holder) none
-
 -- the driver has another card: S5
 pub other_card : (n : ℕ) (holder : List ℕ) (s : State) (it : StoredDriver) (d : Driver) → driver_of n s ≡ Some d → IsStored it d
     → bytes_eq it.holder.items holder ≡ false → with_card holder (driver_of n s) ≡ Err NotYourCard
@@ -37,8 +32,7 @@ other_card n holder s it d is stored other = ap (with_card holder) is
 -- the driver has this card
 pub own_card : (n : ℕ) (holder : List ℕ) (s : State) (it : StoredDriver) (d : Driver) → driver_of n s ≡ Some d → IsStored it d
     → bytes_eq it.holder.items holder ≡ true
-    → IsImporter s (Ok (record { number = n; downloads = it.downloads })) (with_card holder (driver_of n s))
-unfolding IsImporter
+    → (e : Driver) × (with_card holder (driver_of n s) ≡ Ok e) × IsImporterOf s e (record { number = n; downloads = it.downloads })
 own_card n holder s it d is stored own = (
   d,
   ap (with_card holder) is ∙ ap (λ b. cond b (Ok d) (Err NotYourCard))
@@ -48,40 +42,16 @@ own_card n holder s it d is stored own = (
 
 -- ---- by holder
 
--- nobody's card has the holder: S4
-pub unknown_holder : {X : Type 0} (holder : List ℕ) (s : State) (found : Option X) (is : X → Driver → Type 0) → found ≡ None
-    → MatchOption found (holding holder s ≡ None) (λ n. (d : Driver) × (holding holder s ≡ Some d) × is n d)
-    → known_driver (holding holder s) ≡ Err UnknownDriver
-unknown_holder holder s found is none h = ap known_driver
-    (subst (λ o. MatchOption o (holding holder s ≡ None) (λ n. (d : Driver) × (holding holder s ≡ Some d) × is n d)) none h)
-
--- a number was found: a driver's card has the holder
-pub number_known : (holder : List ℕ) (s : State) (n : ℕ) (number : Option ℕ) → number ≡ Some n
-    → MatchOption number (holding holder s ≡ None) (λ m. (d : Driver) × (holding holder s ≡ Some d) × IsNumberOf s m d)
-    → (d : Driver) × (holding holder s ≡ Some d) × IsNumberOf s n d
-number_known holder s n number some = subst
-    (λ o. MatchOption o (holding holder s ≡ None) (λ m. (d : Driver) × (holding holder s ≡ Some d) × IsNumberOf s m d)) some
-
--- that driver exists
-pub holder_known : (holder : List ℕ) (s : State) (n : ℕ) (it : StoredDriver) (d e : Driver) → holding holder s ≡ Some d → IsNumberOf s n d
-    → driver_of n s ≡ Some e → IsStored it e
-    → IsImporter s (Ok (record { number = n; downloads = it.downloads })) (known_driver (holding holder s))
-unfolding IsImporter
-holder_known holder s n it d e is number found stored =
+-- the driver whose card has the holder is the one with the number that was found
+pub holder_known : (s : State) (n : ℕ) (it : StoredDriver) (d e : Driver) → IsNumberOf s n d → driver_of n s ≡ Some e → IsStored it e
+    → IsImporterOf s d (record { number = n; downloads = it.downloads })
+holder_known s n it d e number found stored =
     let same : e ≡ d = (let both = sym found ∙ number.found in cc) in
-    (d, ap known_driver is, record { found = number.found; downloads = stored.downloads ∙ ap (λ (x : Driver). length x.downloads) same })
+    record { found = number.found; downloads = stored.downloads ∙ ap (λ (x : Driver). length x.downloads) same }
 
--- so the look-up by that number isn't refused with S4
-pub holder_refuses : (holder : List ℕ) (s : State) (n : ℕ) (d : Driver) (fault : StoreFault) (told : Result Driver StoreFault)
-    → IsNumberOf s n d → IsDriver s n (Err fault) → IsFindingFault fault told
-holder_refuses holder s n d fault told number = unknown_refuses n s fault told (λ none. absurd (let both = sym number.found ∙ none in cc))
-
--- a fault that is passed on is the importer's fault
-pub handed_importer : (s : State) (fault : StoreFault) (r : Result Importer StoreFault) (told : Result Driver StoreFault)
-    → IsFindingFault fault told → IsErr r × IsErrAnd r (λ found. found ≡ fault) → IsImporter s r told
-unfolding IsImporter
-handed_importer s fault (Ok x) told h e = let wrong = e.0 in cc
-handed_importer s fault (Err found) told h e = subst (λ f. IsFindingFault f told) (sym e.1) h
+-- so there is a driver with this number
+pub number_known : (s : State) (n : ℕ) (d : Driver) {P : Type 0} → IsNumberOf s n d → driver_of n s ≡ None → P
+number_known s n d number none = absurd (let both = sym number.found ∙ none in cc)
 
 -- ---- the driver's import
 
@@ -121,17 +91,6 @@ module _ (part : ℕ) (file : List ℕ) (content : Content) (s : State) where
       own false e = let same : NotYourCard ≡ f = (let both = e in cc) in ap (λ g. refusal_turn g s) same
 
   -- so the import is refused as the look-up was
-  pub not_importer : (caller : Option ℕ) (fault : StoreFault) → IsImporter s (Err fault) (importer caller content.holder s)
+  pub not_importer : (caller : Option ℕ) (fault : StoreFault) → IsFindingFault fault (importer caller content.holder s)
       → IsFindingFault fault (import_step caller part file (Ok content) s).answer
-  unfolding IsImporter
-  not_importer caller fault h = go fault h where
-    go : (f : StoreFault) → IsFindingFault f (importer caller content.holder s) → IsFindingFault f (import_step caller part file (Ok content) s).answer
-    go Memory h = tt
-    go Store h = tt
-    go f h = ap (λ (turn : Turn Imported). turn.answer) (refuses caller f h)
-
--- the driver who was found
-pub the_importer : (s : State) (it : Importer) (told : Result Driver StoreFault) → IsImporter s (Ok it) told
-    → (d : Driver) × (told ≡ Ok d) × IsImporterOf s d it
-unfolding IsImporter
-the_importer s it told h = h
+  not_importer caller fault h = finding_as fault _ _ (λ is. ap (λ (turn : Turn Imported). turn.answer) (refuses caller fault is)) h

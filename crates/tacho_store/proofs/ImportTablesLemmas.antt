@@ -73,14 +73,6 @@ imported_other t n number part file card_gains gains j d = record {
   held = added_other j n t.held gains d;
 }
 
--- the driver's own row gets the count
-counted_own : (n count : ℕ) (r : DriverRow) → r.driver ≡ n → with_downloads n count r ≡ record r { downloads = count }
-counted_own n count r e = ap (λ b. cond b (record r { downloads = count }) r) (subst (λ (k : ℕ). (k == n) ≡ true) (sym e) (eq_self n))
-
--- no other row changes
-counted_other : (n count : ℕ) (r : DriverRow) → r.driver ≢ n → with_downloads n count r ≡ r
-counted_other n count r d = ap (λ b. cond b (record r { downloads = count }) r) (eq_not r.driver n d)
-
 -- the tables represent the state after an import, by the driver's own number
 imported_at : (t : Tables) (s : State) (d : Driver) (part : Part) (file : List ℕ) (content : Content)
     (card_line line card_gains gains : List Span) (a b : ℕ) → TablesRepresent t s → driver_of d.number s ≡ Some d
@@ -93,11 +85,9 @@ imported_at t s d part file content card_line line card_gains gains a b h k tell
     let next = with_download (part_number part) file content.spans d in
     put_is t (with_imported n count (part_number part) file card_gains gains t) n next d s h k refl (record { key = refl; holder = refl })
     (ap (λ (x : List DriverRow). map (with_downloads n count) x) h.drivers
-    ∙ rows_put (with_downloads n count) n next d s k refl h.distinct
-    (counted_own n count (driver_columns d) refl
-    ∙ ap (λ (y : ℕ). record (driver_columns d) { downloads = y })
-    (one_more d.downloads (record { part = part_number part; file = file; spans = content.spans })))
-    (λ x o. counted_other n count x o))
+    ∙ rows_put (λ r. record r { downloads = count }) n next d s k refl h.distinct
+    (ap (λ (y : ℕ). record (driver_columns d) { downloads = y })
+    (one_more d.downloads (record { part = part_number part; file = file; spans = content.spans }))))
     (imported_own t d part file content card_line line card_gains gains a b (found_of t n s d k h.each) tells r g)
     (λ j o. imported_other t n count (part_number part) file card_gains gains j o)
     (record {

@@ -1,21 +1,18 @@
 -- The list of a driver's card files: what one file's row says of it, and the list after each file that is read.
 use Rattle.std.proofs.Common.{◌≡◌, ◌≢◌, ◌∙◌, inl, inr, ℕ, ◌+◌, zero, suc, arith, List, [], ◌∷◌, ◌++◌, Bool, true, false, cond, ◌≤◌, ◌-◌, Vec, Global, None, Some, Result, Ok, Err, IfOk, refl, sym, ap, ap₂, subst, map, drop, length, filter}
-use Rattle.std.specs.Prelude.{◌==◌, Contains, IsErr, IsErrAnd}
+use Rattle.std.specs.Prelude.{◌==◌, Contains}
 use Rattle.std.specs.Borrow.{MutBor}
 use Rattle.std.proofs.lemmas.List.{append-nil, append_assoc, map-append, drop_all}
-use Rattle.std.proofs.lemmas.Result.{on_ok_weaker}
 use Rattle.sqlite.specs.Store.{Ghosts}
 use Rattle.sqlite.specs.Held.{Held}
 use Rattle.sqlite.specs.Tree.{Trees}
-use Rattle.sqlite.proofs.Callers.{unchanged_then}
 use Rattle.tacho_time.specs.OrMemory.{OrMemory}
 use Rattle.tacho_card.specs.declared.fault.CardFault.{CardFault}
 use Rattle.tacho_card.specs.declared.file.Part.{Part}
 use Rattle.tacho_card.specs.declared.file.Part.TheVariants as part
 use Rattle.tacho_state.specs.declared.fault.StoreFault.{StoreFault}
-use Rattle.tacho_state.specs.declared.fault.StoreFault.TheVariants.{Card, Memory, Store, UnknownDriver}
+use Rattle.tacho_state.specs.declared.fault.StoreFault.TheVariants.{Card, Memory}
 use Rattle.tacho_state.specs.declared.file.FileSummary.{FileSummary}
-use Rattle.tacho_state.specs.Acts.{Answers}
 use Rattle.tacho_state.specs.Content.{AreRead, FileTells, HasContent}
 use Rattle.tacho_state.specs.Numbers.{part_number}
 use Rattle.tacho_state.specs.Files.{ListedFile, listed_file, listed_from, files_reading, told_file}
@@ -27,17 +24,13 @@ use Rattle.tacho_tables.specs.Rows.{DownloadRow}
 use Rattle.tacho_tables.specs.declared.rows.StoredDriver.{StoredDriver}
 use Rattle.tacho_tables.specs.declared.rows.StoredFile.{StoredFile}
 use Rattle.tacho_tables.specs.Tables.{Tables, HasTables, is_download}
-use Rattle.tacho_tables.proofs.CallLemmas.{stays_then}
 use Rattle.tacho_reading.specs.Calls.{Tells}
-use Rattle.tacho_reading.specs.Finding.{IsDriver}
-use Rattle.tacho_reading.specs.Kept.{HasGivenUp}
+use Rattle.tacho_reading.specs.Finding.{IsStored}
 use Rattle.tacho_reading.specs.Standing.{Represents}
 use Rattle.tacho_reading.proofs.DownloadLemmas.{download_at}
-use Rattle.tacho_reading.proofs.LookUpLemmas.{the_driver}
-use Rattle.tacho_reading.proofs.SeenLemmas.{still_archive, still_seen}
 use Rattle.tacho_reading.proofs.StateLemmas.{found_of}
+use Rattle.tacho_reading.proofs.TellLemmas.{tells_as, tells_then}
 use Rattle.tacho_store.specs.Listing.{IsFileOf}
-use Rattle.tacho_store.proofs.StepsLemmas.{keeps_after}
 
 -- ---- the content of one file
 
@@ -114,10 +107,6 @@ next_file i (suc k) (d ∷ ds) x e =
     let on : i + suc k ≡ (i + 1) + k = omega arith in
     next_file (i + 1) k ds x (subst (λ (j : ℕ). download_from (i + 1) j ds ≡ Some x) on more)
 
--- S4: there is no such driver
-pub nobody : (n : ℕ) (s : State) → driver_of n s ≡ None → files_reading n s ≡ Err UnknownDriver
-nobody n s none = ap (reading_of (λ (d : Driver). Ok (listed_from 1 d.downloads))) none
-
 -- the first `k` card files of the driver are listed, and their count is right
 pub record AreListedTo (n k count : ℕ) (files : List FileSummary) (s : State) : Type 0 where
   pub driver : Driver
@@ -126,15 +115,14 @@ pub record AreListedTo (n k count : ℕ) (files : List FileSummary) (s : State) 
   pub listed : map told_file files ++ listed_from (1 + k) (drop k driver.downloads) ≡ listed_from 1 driver.downloads
 
 -- before the first reading, none is listed
-pub none_listed : (n : ℕ) (it : StoredDriver) (files : List FileSummary) (s : State) → files ≡ [] → IsDriver s n (Ok it)
-    → AreListedTo n 0 it.downloads files s
-none_listed n it files s none is =
-    let d = the_driver n s it is in record {
-      driver = d.0;
-      found = d.1;
-      counted = d.2.downloads;
-      listed = ap (λ (xs : List FileSummary). map told_file xs ++ listed_from 1 d.0.downloads) none;
-    }
+pub none_listed : (n : ℕ) (it : StoredDriver) (files : List FileSummary) (s : State) (d : Driver) → files ≡ [] → driver_of n s ≡ Some d
+    → IsStored it d → AreListedTo n 0 it.downloads files s
+none_listed n it files s d none is stored = record {
+  driver = d;
+  found = is;
+  counted = stored.downloads;
+  listed = ap (λ (xs : List FileSummary). map told_file xs ++ listed_from 1 d.downloads) none;
+}
 
 -- one more is listed
 one_listed : (n k count : ℕ) (files : List FileSummary) (it : FileSummary) (s : State) → AreListedTo n k count files s
@@ -169,80 +157,21 @@ all_listed n k count files s last h =
     ∙ sym (ap (λ (ds : List Download). map told_file files ++ listed_from (1 + k) ds) none) ∙ h.listed in
     ap (reading_of (λ (d : Driver). Ok (listed_from 1 d.downloads))) h.found ∙ ap Ok (sym all)
 
--- ---- readings one after the other
-
-module _ {S : Type 0} {g : Ghosts S} {old new : MutBor (Held S)} where
-  -- a reading that answered, with another answer
-  pub tells_as : {A B : Type 0} {x : A} {y : B} {first : State → Type 0} (fact : State → Type 0) → Tells g old new (Ok x) (λ _ s. first s)
-      → ((s : State) → first s → fact s) → Tells g old new (Ok y) (λ _ s. fact s)
-  tells_as fact h weaker = record {
-    goes = record { stays = h.goes.stays; keeps = h.goes.keeps; live = λ clean _. h.goes.live clean tt; of_no_file = tt };
-    same = h.same;
-    told = λ clean schema s stands. weaker s (h.told clean schema s stands);
-  }
-
-  -- a reading after which the call gave up with this fault
-  gave_up : {A B C : Type 0} (view : B → C) (told : State → Result C StoreFault) {q : Result A StoreFault} {first : State → Type 0}
-      (fault : StoreFault) → Tells g old new q (λ _ s. first s) → HasGivenUp fault
-      → Tells g old new {A = B} (Err fault) (λ _ s. Answers {A = B} view (Err fault) (told s))
-  gave_up view told Memory h up = record {
-    goes = record { stays = h.goes.stays; keeps = h.goes.keeps; live = λ clean answered. absurd answered; of_no_file = tt };
-    same = λ clean schema. tt;
-    told = λ clean schema s stands. tt;
-  }
-  gave_up view told Store h up = record {
-    goes = record { stays = h.goes.stays; keeps = h.goes.keeps; live = λ clean answered. absurd answered; of_no_file = tt };
-    same = λ clean schema. tt;
-    told = λ clean schema s stands. tt;
-  }
-  gave_up view told fault h up = absurd up
-
-  -- likewise, for the result that has the fault
-  pub tells_ended : {A B C : Type 0} (view : B → C) (told : State → Result C StoreFault) {q : Result A StoreFault} {first : State → Type 0}
-      (fault : StoreFault) (r : Result B StoreFault) → Tells g old new q (λ _ s. first s) → HasGivenUp fault
-      → IsErr r × IsErrAnd r (λ f. f ≡ fault) → Tells g old new r (λ _ s. Answers view r (told s))
-  tells_ended view told fault (Ok x) h up e = let wrong = e.0 in cc
-  tells_ended {B = B} view told fault (Err found) h up e =
-      subst (λ (f : StoreFault). Tells g old new {A = B} (Err f) (λ _ s. Answers {A = B} view (Err f) (told s))) (sym e.1)
-      (gave_up view told fault h up)
-
-  -- a reading after one that answered
-  pub tells_then : {mid : MutBor (Held S)} {A B : Type 0} {x : A} {r : Result B StoreFault} {first more : State → Type 0}
-      (fact : State → Type 0) → Tells g old mid (Ok x) (λ _ s. first s) → Tells g mid new r (λ _ s. more s)
-      → ((s : State) → first s → more s → fact s) → Tells g old new r (λ _ s. fact s)
-  tells_then {r = r} fact p q both = record {
-    goes = record {
-      stays = stays_then p.goes.stays q.goes.stays;
-      keeps = keeps_after _ _ _ q.goes.stays.clean p.same p.goes.keeps q.goes.keeps;
-      live = λ clean answered. p.goes.live (q.goes.stays.clean clean) tt;
-      of_no_file = q.goes.of_no_file;
-    };
-    same = λ clean schema.
-        let first = p.same (q.goes.stays.clean clean) schema in
-        on_ok_weaker r (unchanged_then _ _ _ first) (q.same clean (still_archive _ _ first schema));
-    told = λ clean schema s stands.
-        let clean_1 = q.goes.stays.clean clean in
-        let seen = still_seen _ _ s (p.same clean_1 schema) schema stands in
-        both s (p.told clean_1 schema s stands) (q.told clean seen.0 s seen.1);
-  }
-
 -- ---- the calls of the loop
 
 module _ {S : Type 0} {g : Ghosts S} (n count : ℕ) {old : MutBor (Held S)} where
   -- after one more call, one more file is listed
   pub listed_then : {mid new : MutBor (Held S)} (number : ℕ) (files more : Vec FileSummary Global) (it : FileSummary) → 1 ≤ number
       → Tells g old mid (Ok files) (λ _ s. AreListedTo n (number - 1) count files.items s)
-      → Tells g mid new (Ok it) (λ _ s. (d : Driver) → driver_of n s ≡ Some d → IsFileOf d number it)
+      → Tells g mid new (Ok it) (λ _ s. (d : Driver) → driver_of n s ≡ Some d → IfOk {E = StoreFault} (Ok it) (IsFileOf d number))
       → more.items ≡ files.items ++ it ∷ [] → Tells g old new (Ok more) (λ _ s. AreListedTo n (number + 1 - 1) count more.items s)
   listed_then number files more it one was read pushed =
       let next : number ≡ 1 + (number - 1) = omega (arith, one) in
       let last : 1 + (number - 1) ≡ number + 1 - 1 = omega (arith, one) in
-      tells_as (λ s. AreListedTo n (number + 1 - 1) count more.items s)
-      (tells_then (λ s. AreListedTo n (1 + (number - 1)) count (files.items ++ it ∷ []) s) was read
-      (λ s listed told. one_listed n (number - 1) count files.items it s listed
-      (λ d is. subst (λ (j : ℕ). IsFileOf d j it) next (told d is))))
-      (λ s listed. subst (λ (k : ℕ). AreListedTo n k count more.items s) last
-      (subst (λ (xs : List FileSummary). AreListedTo n (1 + (number - 1)) count xs s) (sym pushed) listed))
+      tells_as (tells_then was read) tt (λ db s stands (listed, told).
+      subst (λ (k : ℕ). AreListedTo n k count more.items s) last
+      (subst (λ (xs : List FileSummary). AreListedTo n (1 + (number - 1)) count xs s) (sym pushed)
+      (one_listed n (number - 1) count files.items it s listed (λ d is. subst (λ (j : ℕ). IsFileOf d j it) next (told d is)))))
 
   -- after the last call, all files are listed
   pub listed_last : {new now : MutBor (Held S)} (k : ℕ) (files all : Vec FileSummary Global) → count ≤ k
@@ -250,6 +179,5 @@ module _ {S : Type 0} {g : Ghosts S} (n count : ℕ) {old : MutBor (Held S)} whe
       → Tells g old now (Ok all) (λ _ s. files_reading n s ≡ Ok (map told_file all.items))
   listed_last k files all last h place same =
       subst (λ (x : MutBor (Held S)). Tells g old x (Ok all) (λ _ s. files_reading n s ≡ Ok (map told_file all.items))) (sym place)
-      (tells_as (λ s. files_reading n s ≡ Ok (map told_file all.items)) h
-      (λ s listed. subst (λ (v : Vec FileSummary Global). files_reading n s ≡ Ok (map told_file v.items)) (sym same)
+      (tells_as h tt (λ db s stands listed. subst (λ (v : Vec FileSummary Global). files_reading n s ≡ Ok (map told_file v.items)) (sym same)
       (all_listed n k count files.items s last listed)))

@@ -1,5 +1,5 @@
 -- The tables after a registration, and after a change of a base, of a key or of a name.
-use Rattle.std.proofs.Common.{◌≡◌, ◌≢◌, ℕ, ◌==◌, true, false, cond, List, [], ◌∷◌, ◌++◌, Some, None, map, refl, sym, ap, ◌∙◌, subst}
+use Rattle.std.proofs.Common.{◌≡◌, ℕ, false, List, [], ◌∷◌, ◌++◌, Some, None, map, refl, sym, ap, ◌∙◌, subst}
 use Rattle.std.proofs.lemmas.List.{map-append}
 use Rattle.tacho_time.specs.declared.span.Span.{Span}
 use Rattle.tacho_time.specs.Spans.{Gives}
@@ -8,13 +8,11 @@ use Rattle.tacho_state.specs.Disjoint.{Keeps}
 use Rattle.tacho_state.specs.State.{Download, Entry, Driver, State, driver_of, driver_with_key, holding, put, with_base, with_key, with_name}
 use Rattle.tacho_state.specs.Steps.{is_another}
 use Rattle.tacho_tables.specs.Rows.{DriverRow}
-use Rattle.tacho_tables.specs.Tables as tables
 use Rattle.tacho_tables.specs.Tables.{Tables}
 use Rattle.tacho_reading.specs.Standing.{driver_columns, RowsRepresent, RowsRepresentEach, AreKnown, TablesRepresent}
-use Rattle.tacho_state.proofs.EqualLemmas.{eq_not, eq_self}
-use Rattle.tacho_state.proofs.DistinctLemmas.{added_has, distinct_added, holder_not, key_free, key_not, number_not}
+use Rattle.tacho_state.proofs.DistinctLemmas.{IsKeyFreeFor, added_has, distinct_added, holder_not, key_free, key_not, number_not, own_key}
 use Rattle.tacho_state.proofs.PutLemmas.{found_number}
-use Rattle.tacho_reading.proofs.StateLemmas.{SameOfDriver, found_of, put_is, put_with_key, rows_put}
+use Rattle.tacho_reading.proofs.StateLemmas.{found_of, put_with_key, rows_put, updated}
 use Rattle.tacho_store.specs.After.{with_driver, with_rebased, with_rekeyed, with_renamed}
 
 -- ---- a driver at the end
@@ -65,82 +63,39 @@ registered_is t s d h n k o none empty =
       marked = record { card_spans = h.marked.card_spans; held = h.marked.held };
     }
 
--- ---- another base
+-- ---- another base, another key, another name
 
--- the driver's own row gets the base
-based_own : (n base : ℕ) (r : DriverRow) → r.driver ≡ n → tables.with_row_base n base r ≡ record r { base = base }
-based_own n base r e = ap (λ b. cond b (record r { base = base }) r) (subst (λ (k : ℕ). (k == n) ≡ true) (sym e) (eq_self n))
+-- the driver with this base, key and name
+abbrev renewed : ℕ → List ℕ → List ℕ → Driver → Driver
+renewed base key name d = record d { base = base; key = key; name = name }
 
--- no other row changes
-based_other : (n base : ℕ) (r : DriverRow) → r.driver ≢ n → tables.with_row_base n base r ≡ r
-based_other n base r d = ap (λ b. cond b (record r { base = base }) r) (eq_not r.driver n d)
-
--- no row changes except the driver's own
-based_same : (t : Tables) (n base j : ℕ) → SameOfDriver j t (with_rebased n base t)
-based_same t n base j = record { downloads = refl; entries = refl; card_spans = refl; held = refl }
+-- tables in which a driver's own row is updated represent the state with the driver's new base, key and name
+updated_is : (f : DriverRow → DriverRow) (base : ℕ) (key name : List ℕ) (t : Tables) (s : State) (n : ℕ) (d : Driver) → TablesRepresent t s
+    → driver_of n s ≡ Some d → IsKeyFreeFor n key s → f (driver_columns d) ≡ driver_columns (renewed base key name d)
+    → TablesRepresent (record t { drivers = map (updated n f) t.drivers }) (put (renewed base key name d) s)
+updated_is f base key name t s n d of is free same =
+    let number = found_number n s d is in
+    let own = found_of t n s d is of.each in
+    put_with_key t (record t { drivers = map (updated n f) t.drivers }) n (renewed base key name d) d s of is number free refl
+    (ap (λ (x : List DriverRow). map (updated n f) x) of.drivers ∙ rows_put f n (renewed base key name d) d s is number of.distinct same)
+    (record { downloads = own.downloads; read = own.read; entries = own.entries; full = own.full; card_spans = own.card_spans; held = own.held })
+    (λ j other. record { downloads = refl; entries = refl; card_spans = refl; held = refl })
+    (record { card_spans = of.marked.card_spans; held = of.marked.held })
 
 -- the tables with another base in the driver's row represent the state with that base
 pub rebased_is : (t : Tables) (s : State) (n base : ℕ) (d : Driver) → TablesRepresent t s → driver_of n s ≡ Some d
     → TablesRepresent (with_rebased n base t) (put (with_base base d) s)
-rebased_is t s n base d h k =
-    let same = found_number n s d k in
-    let own = found_of t n s d k h.each in
-    put_is t (with_rebased n base t) n (with_base base d) d s h k same (record { key = refl; holder = refl })
-    (ap (λ (x : List DriverRow). map (tables.with_row_base n base) x) h.drivers
-    ∙ rows_put (tables.with_row_base n base) n (with_base base d) d s k same h.distinct (based_own n base (driver_columns d) same)
-    (λ x o. based_other n base x o))
-    (record { downloads = own.downloads; read = own.read; entries = own.entries; full = own.full; card_spans = own.card_spans; held = own.held })
-    (λ j o. based_same t n base j)
-    (record { card_spans = h.marked.card_spans; held = h.marked.held })
+rebased_is t s n base d of is =
+    updated_is (λ r. record r { base = base }) base d.key d.name t s n d of is (own_key n s d is of.distinct) refl
 
--- ---- another key
-
--- the driver's own row gets the key
-keyed_own : (n : ℕ) (key : List ℕ) (r : DriverRow) → r.driver ≡ n → tables.with_row_key n key r ≡ record r { secret = key }
-keyed_own n key r e = ap (λ b. cond b (record r { secret = key }) r) (subst (λ (k : ℕ). (k == n) ≡ true) (sym e) (eq_self n))
-
--- no other row changes
-keyed_other : (n : ℕ) (key : List ℕ) (r : DriverRow) → r.driver ≢ n → tables.with_row_key n key r ≡ r
-keyed_other n key r d = ap (λ b. cond b (record r { secret = key }) r) (eq_not r.driver n d)
-
--- no row changes except the driver's own
-keyed_same : (t : Tables) (n : ℕ) (key : List ℕ) (j : ℕ) → SameOfDriver j t (with_rekeyed n key t)
-keyed_same t n key j = record { downloads = refl; entries = refl; card_spans = refl; held = refl }
-
--- the tables with another key in the driver's row represent the state with that key
+-- likewise with another key that no other driver has
 pub rekeyed_is : (t : Tables) (s : State) (n : ℕ) (key : List ℕ) (d : Driver) → TablesRepresent t s → driver_of n s ≡ Some d
     → is_another n (driver_with_key key s) ≡ false → TablesRepresent (with_rekeyed n key t) (put (with_key key d) s)
-rekeyed_is t s n key d h k free =
-    let same = found_number n s d k in
-    let own = found_of t n s d k h.each in
-    put_with_key t (with_rekeyed n key t) n (with_key key d) d s h k same (key_free n key s h.distinct free) refl
-    (ap (λ (x : List DriverRow). map (tables.with_row_key n key) x) h.drivers
-    ∙ rows_put (tables.with_row_key n key) n (with_key key d) d s k same h.distinct (keyed_own n key (driver_columns d) same)
-    (λ x o. keyed_other n key x o))
-    (record { downloads = own.downloads; read = own.read; entries = own.entries; full = own.full; card_spans = own.card_spans; held = own.held })
-    (λ j o. keyed_same t n key j)
-    (record { card_spans = h.marked.card_spans; held = h.marked.held })
+rekeyed_is t s n key d of is free =
+    updated_is (λ r. record r { secret = key }) d.base key d.name t s n d of is (key_free n key s of.distinct free) refl
 
--- ---- another name
-
--- the driver's own row gets the name
-named_own : (n : ℕ) (name : List ℕ) (r : DriverRow) → r.driver ≡ n → tables.with_row_name n name r ≡ record r { name = name }
-named_own n name r e = ap (λ b. cond b (record r { name = name }) r) (subst (λ (k : ℕ). (k == n) ≡ true) (sym e) (eq_self n))
-
--- no other row changes
-named_other : (n : ℕ) (name : List ℕ) (r : DriverRow) → r.driver ≢ n → tables.with_row_name n name r ≡ r
-named_other n name r d = ap (λ b. cond b (record r { name = name }) r) (eq_not r.driver n d)
-
--- the tables with another name in the driver's row represent the state with that name
+-- likewise with another name
 pub renamed_is : (t : Tables) (s : State) (n : ℕ) (name : List ℕ) (d : Driver) → TablesRepresent t s → driver_of n s ≡ Some d
     → TablesRepresent (with_renamed n name t) (put (with_name name d) s)
-renamed_is t s n name d h k =
-    let same = found_number n s d k in
-    let own = found_of t n s d k h.each in
-    put_is t (with_renamed n name t) n (with_name name d) d s h k same (record { key = refl; holder = refl })
-    (ap (λ (x : List DriverRow). map (tables.with_row_name n name) x) h.drivers
-    ∙ rows_put (tables.with_row_name n name) n (with_name name d) d s k same h.distinct (named_own n name (driver_columns d) same)
-    (λ x o. named_other n name x o))
-    (record { downloads = own.downloads; read = own.read; entries = own.entries; full = own.full; card_spans = own.card_spans; held = own.held })
-    (λ j o. record { downloads = refl; entries = refl; card_spans = refl; held = refl })
-    (record { card_spans = h.marked.card_spans; held = h.marked.held })
+renamed_is t s n name d of is =
+    updated_is (λ r. record r { name = name }) d.base d.key name t s n d of is (own_key n s d is of.distinct) refl

@@ -1,23 +1,30 @@
 -- How a step is composed of what its tables follow and of what earlier readings found.
-use Rattle.std.proofs.Common.{◌≡◌, ℕ, Result, OnOk, sym, subst}
+use Rattle.std.proofs.Common.{◌≡◌, ℕ, Result, Ok, Err, OnOk, sym, subst}
 use Rattle.std.specs.Borrow.{MutBor}
+use Rattle.std.specs.Prelude.{IsErr, IsErrAnd, MatchResult}
 use Rattle.std.proofs.lemmas.Result.{on_ok_weaker}
 use Rattle.sqlite.specs.Effect.{Database}
 use Rattle.sqlite.specs.State.{State as Sqlite, HasCleanDisk, IsUnchanged, KeepsCommit}
 use Rattle.sqlite.specs.Store.{Ghosts}
 use Rattle.sqlite.specs.Held.{Held, state}
 use Rattle.sqlite.specs.Tree.{Trees}
-use Rattle.tacho_tables.specs.Tables.{IsArchive}
+use Rattle.tacho_tables.specs.declared.fault.TableFault.{TableFault}
+use Rattle.tacho_tables.specs.Tables.{HasTables, IsArchive, Tables}
 use Rattle.sqlite.proofs.Callers.{unchanged_then}
 use Rattle.tacho_state.specs.declared.fault.StoreFault.{StoreFault}
 use Rattle.tacho_state.specs.Acts.{Answers, IsOfNoFile}
 use Rattle.tacho_state.specs.State.{State, driver_of}
 use Rattle.tacho_state.specs.Steps.{Turn}
-use Rattle.tacho_tables.specs.Calls.{Stays}
+use Rattle.tacho_tables.specs.Calls.{Changes, Stays}
+use Rattle.tacho_tables.proofs.CallLemmas.{stays_then}
 use Rattle.tacho_tables.proofs.Inside.{keeps_then}
-use Rattle.tacho_reading.specs.Calls.{Goes, Steps, StepsGiven}
+use Rattle.tacho_reading.specs.Calls.{Goes, Steps, StepsGiven, Tells}
+use Rattle.tacho_reading.specs.Faults.{fault_of_tables}
+use Rattle.tacho_reading.specs.Finding.{IsFindingFault}
 use Rattle.tacho_reading.specs.Standing.{Represents, KeepsRowsOf, Follows}
+use Rattle.tacho_reading.proofs.MappedLemmas.{answers_mapped, on_ok_mapped}
 use Rattle.tacho_reading.proofs.SeenLemmas.{still_archive, still_seen}
+use Rattle.tacho_reading.proofs.TellLemmas.{answers_handed, no_file_mapped}
 use Rattle.tacho_store.proofs.OthersLemmas.{kept_rows, unchanged_follows}
 
 -- the archive after a step, whose tables follow those before it
@@ -103,70 +110,122 @@ module _ {S : Type 0} {g : Ghosts S} {old new : MutBor (Held S)} {A B : Type 0} 
 
 module _ {B P : Type 0} (given : P → Trees → State → Type 0) (step : P → State → Turn B) where
   -- what was found decides the step
-  abbrev pub IsFound : Trees → State → Turn B → Type 0
-  IsFound db s turn = (p : P) × given p db s × (turn ≡ step p s)
+  abbrev pub IsDecided : Trees → State → Turn B → Type 0
+  IsDecided db s turn = (p : P) × given p db s × (turn ≡ step p s)
 
-module _ {S : Type 0} {g : Ghosts S} {A B P : Type 0} {result : Result A StoreFault} {given : P → Trees → State → Type 0}
-    {view : A → B} {step : P → State → Turn B} where
-  module _ (old : MutBor (Held S)) {mid new : MutBor (Held S)} (h : StepsGiven g mid new result given view step)
-      (same : IsUnchanged (state g old.now) (state g mid.now)) (clean : HasCleanDisk (state g new.now))
-      (schema : IsArchive (state g old.now).now) (s : State) (stands : Represents (state g old.now).now.trees s)
-      {turn : Turn B} (found : IsFound given step (state g mid.now).now.trees s turn) where
-    -- the answer is the one that was decided
-    answer_then : Answers view result turn.answer
-    answer_then =
-        let seen = still_seen _ _ s same schema stands in
-        subst (λ (x : Turn B). Answers view result x.answer) (sym found.2) (h.answer clean seen.0 s seen.1 found.0 found.1)
+module _ {S : Type 0} {g : Ghosts S} {C : Type 0} {x : C} {old mid new : MutBor (Held S)} {first : Trees → State → Type 0}
+    (read : Tells g old mid (Ok x) first) where
+  module _ {A B P : Type 0} {result : Result A StoreFault} {given : P → Trees → State → Type 0} {view : A → B} {step : P → State → Turn B}
+      (h : StepsGiven g mid new result given view step) where
+    -- nothing has changed before the step
+    same : HasCleanDisk (state g new.now) → IsArchive (state g old.now).now → IsUnchanged (state g old.now) (state g mid.now)
+    same clean schema = read.same (h.stays.clean clean) schema
 
-    -- the tables represent the state after the step
-    made_then : OnOk result (IsArchive (state g new.now).now × Represents (state g new.now).now.trees turn.after)
-    made_then =
-        let seen = still_seen _ _ s same schema stands in
-        subst (λ (x : Turn B). OnOk result
-        (IsArchive (state g new.now).now × Represents (state g new.now).now.trees x.after)) (sym found.2)
-        (h.made clean seen.0 s seen.1 found.0 found.1)
+    keeps : HasCleanDisk (state g new.now) → IsArchive (state g old.now).now → KeepsCommit (state g old.now) (state g new.now)
+    keeps = keeps_after _ _ _ h.stays.clean read.same read.goes.keeps h.keeps
 
-    -- if the step changes nothing of a driver, that driver's rows are kept
-    others_then : (n : ℕ) → driver_of n turn.after ≡ driver_of n s
-        → OnOk result (KeepsRowsOf n (state g old.now).now.trees (state g new.now).now.trees)
-    others_then n is =
-        let seen = still_seen _ _ s same schema stands in
-        subst (λ (d : Database). OnOk result (KeepsRowsOf n d.trees (state g new.now).now.trees)) same.0.now_is
-        (h.others clean seen.0 s seen.1 found.0 found.1 n (subst (λ (x : Turn B). driver_of n x.after ≡ driver_of n s) found.2 is))
+    module _ (clean : HasCleanDisk (state g new.now)) (schema : IsArchive (state g old.now).now) (s : State)
+        (stands : Represents (state g old.now).now.trees s) {turn : Turn B}
+        (found : IsDecided given step (state g old.now).now.trees s turn) where
+      -- it is decided as before, and the archive is still seen
+      still : IsDecided given step (state g mid.now).now.trees s turn
+      still = subst (λ (d : Database). IsDecided given step d.trees s turn) (sym (same clean schema).0.now_is) found
 
-  module _ {old mid new : MutBor (Held S)} (h : StepsGiven g mid new result given view step)
-      (same : HasCleanDisk (state g new.now) → IsArchive (state g old.now).now
-      → IsUnchanged (state g old.now) (state g mid.now)) where
+      seen : IsArchive (state g mid.now).now × Represents (state g mid.now).now.trees s
+      seen = still_seen _ _ s (same clean schema) schema stands
+
+      -- the answer is the one that was decided
+      answer_then : Answers view result turn.answer
+      answer_then = subst (λ (x : Turn B). Answers view result x.answer) (sym still.2) (h.answer clean seen.0 s seen.1 still.0 still.1)
+
+      -- the tables represent the state after the step
+      made_then : OnOk result (IsArchive (state g new.now).now × Represents (state g new.now).now.trees turn.after)
+      made_then = subst (λ (x : Turn B). OnOk result
+          (IsArchive (state g new.now).now × Represents (state g new.now).now.trees x.after)) (sym still.2)
+          (h.made clean seen.0 s seen.1 still.0 still.1)
+
+      -- if the step changes nothing of a driver, that driver's rows are kept
+      others_then : (n : ℕ) → driver_of n turn.after ≡ driver_of n s
+          → OnOk result (KeepsRowsOf n (state g old.now).now.trees (state g new.now).now.trees)
+      others_then n is =
+          subst (λ (d : Database). OnOk result (KeepsRowsOf n d.trees (state g new.now).now.trees)) (same clean schema).0.now_is
+          (h.others clean seen.0 s seen.1 still.0 still.1 n (subst (λ (x : Turn B). driver_of n x.after ≡ driver_of n s) still.2 is))
+
     -- a step of a state
-    pub steps_then : {turn : State → Turn B} → Goes g old new result
-        → (HasCleanDisk (state g new.now) → IsArchive (state g old.now).now → (s : State)
-        → Represents (state g old.now).now.trees s → IsFound given step (state g mid.now).now.trees s (turn s))
+    pub steps_told : {turn : State → Turn B} → ((db : Trees) (s : State) → Represents db s → first db s → IsDecided given step db s (turn s))
         → Steps g old new result view turn
-    steps_then goes found = record {
-      goes = goes;
-      answer = λ clean schema s stands. answer_then old h (same clean schema) clean schema s stands (found clean schema s stands);
-      made = λ clean schema s stands. made_then old h (same clean schema) clean schema s stands (found clean schema s stands);
-      others = λ clean schema s stands. others_then old h (same clean schema) clean schema s stands (found clean schema s stands);
-    }
+    steps_told {turn} found = record {
+      goes = record {
+        stays = stays_then read.goes.stays h.stays;
+        keeps = keeps;
+        live = λ clean answered. read.goes.live (h.stays.clean clean) tt;
+        of_no_file = h.of_no_file;
+      };
+      answer = λ clean schema s stands. answer_then clean schema s stands (decides clean schema s stands);
+      made = λ clean schema s stands. made_then clean schema s stands (decides clean schema s stands);
+      others = λ clean schema s stands. others_then clean schema s stands (decides clean schema s stands);
+    } where
+      decides : (clean : HasCleanDisk (state g new.now)) (schema : IsArchive (state g old.now).now) (s : State)
+          (stands : Represents (state g old.now).now.trees s) → IsDecided given step (state g old.now).now.trees s (turn s)
+      decides clean schema s stands = found _ s stands (read.told (h.stays.clean clean) schema s stands)
 
     -- a step that earlier findings decide
-    pub given_then : {Q : Type 0} {asked : Q → Trees → State → Type 0} {turn : Q → State → Turn B} → Stays g old new
-        → (HasCleanDisk (state g new.now) → IsArchive (state g old.now).now → KeepsCommit (state g old.now) (state g new.now))
-        → IsOfNoFile result
-        → (HasCleanDisk (state g new.now) → IsArchive (state g old.now).now → (s : State)
-        → Represents (state g old.now).now.trees s → (q : Q) → asked q (state g old.now).now.trees s
-        → IsFound given step (state g mid.now).now.trees s (turn q s))
+    pub given_told : {Q : Type 0} {asked : Q → Trees → State → Type 0} {turn : Q → State → Turn B}
+        → ((db : Trees) (s : State) → Represents db s → first db s → (q : Q) → asked q db s → IsDecided given step db s (turn q s))
         → StepsGiven g old new result asked view turn
-    given_then stays keeps of_no_file found = record {
-      stays = stays;
+    given_told {Q} {asked} {turn} found = record {
+      stays = stays_then read.goes.stays h.stays;
       keeps = keeps;
-      of_no_file = of_no_file;
-      answer = λ clean schema s stands q is.
-          answer_then old h (same clean schema) clean schema s stands (found clean schema s stands q is);
-      made = λ clean schema s stands q is.
-          made_then old h (same clean schema) clean schema s stands (found clean schema s stands q is);
-      others = λ clean schema s stands q is.
-          others_then old h (same clean schema) clean schema s stands (found clean schema s stands q is);
+      of_no_file = h.of_no_file;
+      answer = λ clean schema s stands q is. answer_then clean schema s stands (decides clean schema s stands q is);
+      made = λ clean schema s stands q is. made_then clean schema s stands (decides clean schema s stands q is);
+      others = λ clean schema s stands q is. others_then clean schema s stands (decides clean schema s stands q is);
+    } where
+      decides : (clean : HasCleanDisk (state g new.now)) (schema : IsArchive (state g old.now).now) (s : State)
+          (stands : Represents (state g old.now).now.trees s) (q : Q) → asked q (state g old.now).now.trees s
+          → IsDecided given step (state g old.now).now.trees s (turn q s)
+      decides clean schema s stands q is = found _ s stands (read.told (h.stays.clean clean) schema s stands) q is
+
+  -- one change of the tables
+  pub steps_written : {r : Result (Unit {0}) TableFault} {t : Result (Unit {0}) StoreFault} {turn : Tables → Tables}
+      {step : State → Turn (Unit {0})} → Changes g mid new r turn → MatchResult r (λ y. t ≡ Ok y) (λ e. IsErrAnd t (λ f. f ≡ fault_of_tables e))
+      → ((db : Trees) (s : State) → Represents db s → first db s → (step s).answer ≡ Ok tt)
+      → ((db next : Trees) (s : State) → Represents db s → first db s → ((a : Tables) → HasTables db a → HasTables next (turn a))
+      → Follows db next s (step s).after)
+      → Steps g old new t (λ (u : Unit {0}). u) step
+  steps_written {r} {t} h cases answer follows = steps_by (record {
+    stays = stays_then read.goes.stays h.stays;
+    keeps = λ clean schema. keeps_then _ _ _ (read.goes.keeps (h.stays.clean clean) schema) (h.keeps clean);
+    live = λ clean answered. read.goes.live (h.stays.clean clean) tt;
+    of_no_file = no_file_mapped r t cases;
+  })
+      (λ clean schema s stands. answers_mapped r t _ cases
+      (λ u. answer _ s stands (read.told (h.stays.clean clean) schema s stands)))
+      (λ clean schema s stands.
+      let clean_1 = h.stays.clean clean in
+      let same = read.same clean_1 schema in
+      on_ok_mapped r t _ _ _ (λ turns. (
+        turns.schema,
+        follows _ _ s stands (read.told clean_1 schema s stands)
+            (λ a stand. turns.stands a (subst (λ (d : Database). HasTables d.trees a) (sym same.0.now_is) stand)),
+      )) cases (h.turned clean (still_archive _ _ same schema)))
+
+-- nothing is said of the value of a result that is an error
+no_value : {A E : Type 0} (r : Result A E) (P : Type 0) → IsErr r → OnOk r P
+no_value (Ok x) P fails = let wrong = fails in cc
+no_value (Err e) P fails = tt
+
+-- a step that a reading refused, or during which it gave up
+pub steps_refused : {S : Type 0} {g : Ghosts S} {old new : MutBor (Held S)} {A B C : Type 0} {result : Result A StoreFault}
+    {fault : StoreFault} {first : Trees → State → Type 0} (view : A → B) (step : State → Turn B) → Tells g old new {A = C} (Err fault) first
+    → IsErr result × IsErrAnd result (λ found. found ≡ fault)
+    → ((db : Trees) (s : State) → Represents db s → first db s → IsFindingFault fault (step s).answer) → Steps g old new result view step
+steps_refused {result = result} view step h e more =
+    let told = answers_handed view (λ db s. (step s).answer) h e more in record {
+      goes = told.goes;
+      answer = told.told;
+      made = λ clean schema s stands. no_value result _ e.0;
+      others = λ clean schema s stands n is. no_value result _ e.0;
     }
 
 -- ---- a step that is undone

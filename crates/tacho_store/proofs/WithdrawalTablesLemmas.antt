@@ -1,7 +1,6 @@
 -- The tables after a withdrawal represent the state after it.
 use Rattle.std.proofs.Common.{◌≡◌, ◌≢◌, ℕ, ◌+◌, ◌<◌, ◌≤◌, ◌==◌, ◌&&◌, ◌⊎◌, inl, inr, nat_lt, not, Bool, true, false, cond, List, [], ◌∷◌, ◌++◌, Some, length, map, filter, refl, sym, ap, ◌∙◌, subst, arith}
 use Rattle.std.specs.List.Sorted.{IsPermutation}
-use Rattle.std.proofs.lemmas.List.{map-id}
 use Rattle.std.proofs.lemmas.List.Elements.{All-filter}
 use Rattle.std.proofs.lemmas.List.Sorted.{IsPermutation-sym, IsPermutation-map}
 use Rattle.tacho_time.specs.declared.span.Span.{Span}
@@ -25,7 +24,7 @@ use Rattle.tacho_state.specs.Numbers.{IsMark}
 use Rattle.tacho_reading.proofs.RowLemmas.{added_own, added_other, added_marks, near_spans}
 use Rattle.tacho_reading.proofs.NearRowLemmas.{permuted_gives}
 use Rattle.tacho_state.proofs.PutLemmas.{found_number}
-use Rattle.tacho_reading.proofs.StateLemmas.{SameOfDriver, found_of, put_is, rows_put}
+use Rattle.tacho_reading.proofs.StateLemmas.{SameOfDriver, found_of, put_is, rows_put, updated}
 use Rattle.tacho_store.specs.After.{with_renewed}
 
 -- ---- rows that are not near a range
@@ -344,6 +343,16 @@ withdrawn_other t n number a b spans j d = record {
   held = renewed_other j n a b spans t.held d;
 }
 
+-- an update that changes no column leaves the rows of drivers as they were
+same_rows : (n : ℕ) (rows : List DriverRow) → map (updated n (λ (x : DriverRow). x)) rows ≡ rows
+same_rows n [] = refl
+same_rows n (r ∷ rows) =
+    ap (λ (x : DriverRow). x ∷ map (updated n (λ (x : DriverRow). x)) rows) (go (r.driver == n))
+    ∙ ap (λ (x : List DriverRow). r ∷ x) (same_rows n rows) where
+      go : (b : Bool) → cond b r r ≡ r
+      go true = refl
+      go false = refl
+
 -- the tables represent the state after a withdrawal, by the driver's own number
 withdrawn_at : (t : Tables) (s : State) (d : Driver) (number : ℕ) (e : Entry) (cards others helds : List StoredSpan)
     (inside : List Span) → TablesRepresent t s → driver_of d.number s ≡ Some d → entry_from 1 number d.entries ≡ Some e
@@ -355,10 +364,9 @@ withdrawn_at t s d number e cards others helds inside h k f r =
     let next = with_marked number d in
     let spans = outside e.start e.past (map stored_span helds) ++ inside in
     put_is t (with_renewed n number e.start e.past spans t) n next d s h k refl (record { key = refl; holder = refl })
-    (h.drivers ∙ sym (map-id (map driver_columns s))
+    (h.drivers ∙ sym (same_rows n (map driver_columns s))
     ∙ rows_put (λ (x : DriverRow). x) n next d s k refl h.distinct
-    (ap (λ (y : ℕ). record (driver_columns d) { entries = y }) (sym (marked_length 1 number d.entries)))
-    (λ x o. refl))
+    (ap (λ (y : ℕ). record (driver_columns d) { entries = y }) (sym (marked_length 1 number d.entries))))
     (withdrawn_own t d number e cards others helds inside (found_of t n s d k h.each) f r)
     (λ j o. withdrawn_other t n number e.start e.past spans j o)
     (record {

@@ -14,7 +14,7 @@ use Rattle.tacho_state.specs.Steps.{Content, Turn, turn_of, import_own, most_rec
 use Rattle.tacho_tables.specs.Rows.{SpanRow}
 use Rattle.tacho_tables.specs.Tables.{Tables, HasTables, with_downloads}
 use Rattle.tacho_reading.specs.Standing.{Follows, span_row}
-use Rattle.tacho_reading.specs.Finding.{IsFindingFault}
+use Rattle.tacho_reading.specs.Finding.{IsFindingFault, IsFound}
 use Rattle.tacho_state.specs.declared.content.CardContent.{CardContent}
 use Rattle.tacho_store.specs.declared.import.Importer.{Importer}
 use Rattle.tacho_store.specs.declared.news.News.{News}
@@ -35,9 +35,8 @@ pub record IsImporterOf (s : State) (d : Driver) (it : Importer) : Type 0 where
   pub downloads : it.downloads ≡ length d.downloads
 
 -- the driver was found; or the look-up was refused, ran out of memory, or the store failed
-unfoldable pub IsImporter : State → Result Importer StoreFault → Result Driver StoreFault → Type 0
-IsImporter s (Ok it) told = (d : Driver) × (told ≡ Ok d) × IsImporterOf s d it
-IsImporter s (Err fault) told = IsFindingFault fault told
+abbrev pub IsImporter : State → Result Importer StoreFault → Result Driver StoreFault → Type 0
+IsImporter s result told = IsFound (λ it. (d : Driver) × (told ≡ Ok d) × IsImporterOf s d it) told result
 
 -- the tables after the writes of a download: its number is the driver's count, and new rows are in front of the old ones
 abbrev pub tables_after_download : ℕ → ℕ → ℕ → List ℕ → List SpanRow → List SpanRow → Tables → Tables

@@ -9,8 +9,3 @@ use Rattle.tacho_reading.specs.Finding.{IsFindingFault}
 pub record CanHaveKey (s : State) (n : ℕ) (key : List ℕ) (d : Driver) : Type 0 where
   pub driver : driver_of n s ≡ Some d
   pub free : is_another n (driver_with_key key s) ≡ false
-
--- there is such a driver; or the change is refused (S2, S4), ran out of memory, or the store failed
-unfoldable pub IsAskedKey : State → ℕ → List ℕ → Result (Unit {0}) StoreFault → Type 0
-IsAskedKey s n key (Ok done) = (d : Driver) × CanHaveKey s n key d
-IsAskedKey s n key (Err fault) = IsFindingFault fault (rekey_step n key s).answer

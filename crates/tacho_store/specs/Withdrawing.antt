@@ -18,7 +18,7 @@ use Rattle.tacho_tables.specs.declared.rows.StoredEntry.{StoredEntry}
 use Rattle.tacho_tables.specs.Tables.{Tables, HasTables, IsArchive, is_of, row_of, listed_entry, told_entry, with_withdrawn}
 use Rattle.tacho_reading.specs.Standing.{HaveNoLine, AreMinutes, Represents, TablesRepresent, IsFit, span_row, stored_span, entry_row, IsReadNear, IsKeptNear}
 use Rattle.tacho_reading.specs.Calls.{Goes}
-use Rattle.tacho_reading.specs.Finding.{IsFindingFault}
+use Rattle.tacho_reading.specs.Finding.{IsFound}
 
 -- a driver's entry that is not withdrawn, as stored
 pub record IsThere (s : State) (n number : ℕ) (it : StoredEntry) (d : Driver) (e : Entry) : Type 0 where
@@ -28,9 +28,8 @@ pub record IsThere (s : State) (n number : ℕ) (it : StoredEntry) (d : Driver) 
   pub row : told_entry it ≡ listed_entry (entry_row n number e)
 
 -- the entry exists and is not withdrawn; or the withdrawal is refused (S4, S7, S8), ran out of memory, or the store failed
-unfoldable pub IsEntry : State → ℕ → ℕ → Result StoredEntry StoreFault → Type 0
-IsEntry s n number (Ok it) = (d : Driver) × (e : Entry) × IsThere s n number it d e
-IsEntry s n number (Err fault) = IsFindingFault fault (withdraw_step n number s).answer
+abbrev pub IsEntry : State → ℕ → ℕ → Result StoredEntry StoreFault → Type 0
+IsEntry s n number result = IsFound (λ it. (d : Driver) × (e : Entry) × IsThere s n number it d e) (withdraw_step n number s).answer result
 
 -- the rows of the parts of held spans outside a range, and of what card spans and entries give inside it
 pub record AreRowsFor (cards others helds : List StoredSpan) (start past : ℕ) (rows : List StoredSpan) : Type 0 where
@@ -42,13 +41,17 @@ pub record AreRowsFor (cards others helds : List StoredSpan) (start past : ℕ) 
 abbrev pub HaveNoRows : List StoredSpan → List StoredSpan → List StoredSpan → ℕ → ℕ → Type 0
 HaveNoRows cards others helds start past = (¬ AreMinutes start past) ⊎ (¬ All IsFit helds) ⊎ HaveNoLine (cards ++ others)
 
--- the rows that replace those near a driver's withdrawn entry, by what the tables have near it
-pub record AreRenewed (t : Tables) (n number start past : ℕ) (rows : List StoredSpan) : Type 0 where
+-- the tables with a driver's entry marked as withdrawn
+abbrev pub with_mark : ℕ → ℕ → Tables → Tables
+with_mark n number t = record t { entries = map (with_withdrawn n number) t.entries }
+
+-- the rows that replace a driver's held rows near a range, by what the tables have near it
+pub record AreRenewed (t : Tables) (n start past : ℕ) (rows : List StoredSpan) : Type 0 where
   pub cards : List StoredSpan
   pub others : List StoredSpan
   pub helds : List StoredSpan
   pub cards_near : IsReadNear t.card_spans n start past cards
-  pub others_near : IsKeptNear (map (with_withdrawn n number) t.entries) n start past others
+  pub others_near : IsKeptNear t.entries n start past others
   pub helds_near : IsReadNear t.held n start past helds
   pub are_rows : AreRowsFor cards others helds start past rows
 

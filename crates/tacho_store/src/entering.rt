@@ -1,4 +1,4 @@
-ghost use Rattle.std.specs.Prelude.{◌≡◌, ℕ, ◌+◌, ◌<◌, ◌^◌, ◌∷◌, ◌++◌, Some, length, map, false, IfOk, MatchResult};
+ghost use Rattle.std.specs.Prelude.{◌≡◌, ℕ, ◌+◌, ◌<◌, ◌^◌, ◌∷◌, ◌++◌, Some, length, map, false, IfOk};
 ghost use Rattle.tacho_state.specs.Acts.{IsOfNoFile};
 ghost use Rattle.tacho_state.specs.Batch.{IsBatch, entry_of, batch_of};
 ghost use Rattle.tacho_state.specs.Disjoint.{AreInRange};
@@ -8,7 +8,7 @@ ghost use Rattle.tacho_tables.specs.Tables.{new_entry_row, row_of};
 ghost use Rattle.tacho_tables.specs.Calls.{Changes};
 ghost use Rattle.tacho_reading.specs.Calls.{Tells, Steps, StepsGiven};
 ghost use Rattle.tacho_reading.specs.Kept.{ActsOn};
-ghost use Rattle.tacho_reading.specs.Finding.{IsFindingFault};
+ghost use Rattle.tacho_reading.specs.Finding.{IsFound};
 ghost use Rattle.tacho_reading.specs.Standing.{entry_row, rows_of_entries};
 ghost use Rattle.tacho_store.specs.Entering.{AreNumbered, AreToEnter, enter_turn, tables_after_batch};
 
@@ -18,8 +18,8 @@ use std::alloc::{AllocError, Global};
 use tacho_reading::act_within;
 use tacho_reading::fault::store_fault;
 use tacho_reading::finding::driver_with;
-use tacho_reading::near::rows_near;
-use tacho_reading::spans::{line_of_stored, stored, stored_row};
+use tacho_reading::near::line_near;
+use tacho_reading::spans::{stored, stored_row};
 use tacho_state::{Entered, EntryLine, StoreFault, first_number};
 use tacho_tables::entries::NewEntry;
 use tacho_tables::{SpanTable, StoredSpan, TableFault, drivers, entries, spans};
@@ -72,12 +72,10 @@ fn gains_near<S: Alter>(
     requires batch { IsBatch lines.now }
     requires spans { spans.now ≡ entered_spans (batch_of lines.now) }
     ensures { Tells S.Store tx.old.conn tx.new.conn result (λ db s. (d : Driver) → driver_of driver s ≡ Some d
-        → MatchResult result (λ gains. AreNumbered db s driver d (batch_of lines.now) gains.items)
-        (λ fault. IsFindingFault fault (enter_own (batch_of lines.now) d))) }
+        → IsFound (λ gains. AreNumbered db s driver d (batch_of lines.now) gains.items) (enter_own (batch_of lines.now) d) result) }
 {
     let (start, past) = range_of_lines(lines);
-    let helds = rows_near(alloc, tx, SpanTable::Held, driver, start, past).map_err(store_fault)?;
-    let line = line_of_stored(alloc, &helds)?;
+    let line = line_near(alloc, tx, SpanTable::Held, driver, start, past)?;
     gains_of(alloc, &line, spans)
 }
 

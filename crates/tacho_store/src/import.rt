@@ -20,9 +20,9 @@ use std::alloc::Global;
 use tacho_card::Part;
 use tacho_reading::act_within;
 use tacho_reading::fault::store_fault;
-use tacho_reading::finding::driver_with;
-use tacho_reading::near::rows_near;
-use tacho_reading::spans::{line_of_stored, range_of, stored};
+use tacho_reading::finding::{driver_with, number_with_holder};
+use tacho_reading::near::line_near;
+use tacho_reading::spans::{range_of, stored};
 use tacho_state::{Caller, CardContent, Imported, StoreFault, first_number, number_of_part};
 use tacho_tables::{SpanTable, StoredSpan, TableFault, downloads, drivers, spans};
 use tacho_time::Span;
@@ -35,14 +35,13 @@ pub struct Importer {
 }
 
 /// Finds the driver whose card has the holder: S4.
-#[tactic(auto, unfolding(crate::specs::Importing::IsImporter))]
 fn importer_by_holder<S: Alter>(
     tx: &mut Transaction<'_, S>,
     holder: &[u8],
 ) -> Result<Importer, StoreFault>
     ensures { Tells S.Store tx.old.conn tx.new.conn result (λ _ s. IsImporter s result (importer None holder.now s)) }
 {
-    let found = drivers::number_by_holder(tx, holder).map_err(store_fault)?;
+    let found = number_with_holder(tx, holder)?;
     let Some(number) = found else {
         return Err(StoreFault::UnknownDriver);
     };
@@ -54,7 +53,6 @@ fn importer_by_holder<S: Alter>(
 }
 
 /// Finds the driver with the number, whose card must have the holder: S4, S5.
-#[tactic(auto, unfolding(crate::specs::Importing::IsImporter))]
 fn importer_by_number<S: Alter>(
     tx: &mut Transaction<'_, S>,
     number: u32,
@@ -89,7 +87,6 @@ fn importer_of<S: Alter>(
 }
 
 /// What of a file's spans is new to a driver, computed from the rows near them. None if downloads give all of them. S6.
-#[tactic(auto, unfolding(crate::specs::Importing::AreDecided))]
 fn news_near<S: Alter>(
     alloc: Global,
     tx: &mut Transaction<'_, S>,
@@ -101,12 +98,8 @@ fn news_near<S: Alter>(
         → AreDecided db s driver d spans.now result) }
 {
     let (start, past) = range_of(spans);
-    let cards = rows_near(alloc, tx, SpanTable::CardSpans, driver, start, past).map_err(
-        store_fault,
-    )?;
-    let helds = rows_near(alloc, tx, SpanTable::Held, driver, start, past).map_err(store_fault)?;
-    let card_line = line_of_stored(alloc, &cards)?;
-    let line = line_of_stored(alloc, &helds)?;
+    let card_line = line_near(alloc, tx, SpanTable::CardSpans, driver, start, past)?;
+    let line = line_near(alloc, tx, SpanTable::Held, driver, start, past)?;
     news_of(alloc, &card_line, &line, spans)
 }
 

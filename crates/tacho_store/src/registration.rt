@@ -2,30 +2,32 @@ ghost use Rattle.std.specs.Prelude.{◌≡◌, false};
 ghost use Rattle.tacho_state.specs.Steps.{register_step};
 ghost use Rattle.tacho_reading.specs.Calls.{Steps, Tells};
 ghost use Rattle.tacho_state.specs.Acts.{IsOfNoFile};
+ghost use Rattle.tacho_reading.specs.Finding.{IsFound};
 ghost use Rattle.tacho_reading.specs.Kept.{ActsOn};
-ghost use Rattle.tacho_store.specs.Registering.{IsAskedFree};
+ghost use Rattle.tacho_store.specs.Registering.{AreFree};
 
 use sqlite::{Alter, Connection, Transaction};
 use tacho_reading::act_within;
 use tacho_reading::fault::store_fault;
+use tacho_reading::finding::{number_with_holder, number_with_key, stored_with};
 use tacho_state::{Driver, StoreFault, is_monday};
 use tacho_tables::drivers;
 
 /// Checks that nobody has a new driver's number, key or holder: S1, S2, S3.
-#[tactic(auto, unfolding(crate::specs::Registering::IsAskedFree))]
 fn ask_free<S: Alter>(tx: &mut Transaction<'_, S>, driver: &Driver) -> Result<(), StoreFault>
     ensures { Tells S.Store tx.old.conn tx.new.conn result
-        (λ _ s. IsAskedFree s driver.now.number driver.now.key driver.now.holder result) }
+        (λ _ s. IsFound (λ _. AreFree s driver.now.number driver.now.key driver.now.holder)
+        (register_step driver.now.number driver.now.holder driver.now.key driver.now.base driver.now.name s).answer result) }
 {
-    let by_number = drivers::by_number(tx, driver.number()).map_err(store_fault)?;
+    let by_number = stored_with(tx, driver.number())?;
     if by_number.is_some() {
         return Err(StoreFault::DriverTaken);
     }
-    let by_key = drivers::number_by_secret(tx, driver.key().as_bytes()).map_err(store_fault)?;
+    let by_key = number_with_key(tx, driver.key().as_bytes())?;
     if by_key.is_some() {
         return Err(StoreFault::KeyTaken);
     }
-    let by_holder = drivers::number_by_holder(tx, driver.holder()).map_err(store_fault)?;
+    let by_holder = number_with_holder(tx, driver.holder())?;
     if by_holder.is_some() {
         return Err(StoreFault::HolderTaken);
     }

@@ -3,13 +3,14 @@ ghost use Rattle.tacho_state.specs.State.{Driver};
 ghost use Rattle.tacho_state.specs.Steps.{is_another, rekey_step};
 ghost use Rattle.tacho_reading.specs.Calls.{Steps, Tells};
 ghost use Rattle.tacho_state.specs.Acts.{IsOfNoFile};
+ghost use Rattle.tacho_reading.specs.Finding.{IsFound};
 ghost use Rattle.tacho_reading.specs.Kept.{ActsOn};
-ghost use Rattle.tacho_store.specs.Rekeying.{IsAskedKey};
+ghost use Rattle.tacho_store.specs.Rekeying.{CanHaveKey};
 
 use sqlite::{Alter, Connection, Transaction};
 use tacho_reading::act_within;
 use tacho_reading::fault::store_fault;
-use tacho_reading::finding::driver_with;
+use tacho_reading::finding::{driver_with, number_with_key};
 use tacho_state::StoreFault;
 use tacho_tables::drivers;
 
@@ -24,11 +25,11 @@ fn is_of_another(owner: Option<u32>, driver: u32) -> bool
 }
 
 /// Checks that no other driver has a key, and that the driver is there: S2, S4.
-#[tactic(auto, unfolding(crate::specs::Rekeying::IsAskedKey))]
 fn ask_key<S: Alter>(tx: &mut Transaction<'_, S>, driver: u32, key: &str) -> Result<(), StoreFault>
-    ensures { Tells S.Store tx.old.conn tx.new.conn result (λ _ s. IsAskedKey s driver key.now result) }
+    ensures { Tells S.Store tx.old.conn tx.new.conn result
+        (λ _ s. IsFound (λ _. (d : Driver) × CanHaveKey s driver key.now d) (rekey_step driver key.now s).answer result) }
 {
-    let owner = drivers::number_by_secret(tx, key.as_bytes()).map_err(store_fault)?;
+    let owner = number_with_key(tx, key.as_bytes())?;
     if is_of_another(owner, driver) {
         return Err(StoreFault::KeyTaken);
     }

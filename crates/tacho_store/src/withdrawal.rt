@@ -6,13 +6,14 @@ ghost use Rattle.tacho_time.specs.Spans.{Gives, IsCanonicalOf};
 ghost use Rattle.tacho_line.specs.Line.{IsWithin};
 ghost use Rattle.tacho_state.specs.Disjoint.{outside};
 ghost use Rattle.tacho_state.specs.Steps.{withdraw_range_step, withdraw_step};
-ghost use Rattle.tacho_tables.specs.Tables.{Tables, HasTables, is_row_near, row_of, with_withdrawn, IsArchive};
+ghost use Rattle.tacho_tables.specs.Calls.{Finds};
+ghost use Rattle.tacho_tables.specs.Tables.{Tables, HasTables, is_row_near, row_of, IsArchive};
 ghost use Rattle.tacho_reading.specs.Standing.{stored_span, IsFit, HaveNoLine};
 ghost use Rattle.tacho_reading.specs.Calls.{Tells, Steps, ChangesWhere};
 ghost use Rattle.tacho_state.specs.Acts.{IsOfNoFile};
 ghost use Rattle.tacho_reading.specs.Kept.{ActsOn};
 ghost use Rattle.tacho_reading.specs.Apart.{AreRowsApart, driver_rows};
-ghost use Rattle.tacho_store.specs.Withdrawing.{IsEntry, AreRowsFor, HaveNoRows, AreRenewed, Renews};
+ghost use Rattle.tacho_store.specs.Withdrawing.{IsEntry, AreRowsFor, HaveNoRows, AreRenewed, Renews, with_mark};
 
 use sqlite::{Alter, Connection, Transaction};
 use std::alloc::Global;
@@ -26,7 +27,6 @@ use tacho_tables::{SpanTable, StoredEntry, StoredSpan, TableFault, entries, held
 use tacho_time::{Minute, Span};
 
 /// Finds a driver's entry that is not withdrawn: S4, S7, S8.
-#[tactic(auto, unfolding(crate::specs::Withdrawing::IsEntry))]
 fn entry_with<S: Alter>(
     tx: &mut Transaction<'_, S>,
     driver: u32,
@@ -106,6 +106,27 @@ fn rows_for(
     Ok(stored(alloc, &spans)?)
 }
 
+/// The rows that replace a driver's held rows near a range, by what the tables have near it.
+fn rows_in_place<S: Alter>(
+    alloc: Global,
+    tx: &mut Transaction<'_, S>,
+    driver: u32,
+    start: u32,
+    past: u32,
+) -> Result<Vec<StoredSpan>, StoreFault>
+    ensures found { Finds S.Store tx.old.conn tx.new.conn result
+        (λ t rows. AreRowsApart (driver_rows driver t.card_spans) → AreRowsApart (driver_rows driver t.held)
+        → AreRenewed t driver start past rows.items) }
+    ensures fault { IfErr result (λ fault. OrMemory StoreFault.Memory fault (fault ≡ StoreFault.Store)) }
+{
+    let cards = rows_near(alloc, tx, SpanTable::CardSpans, driver, start, past).map_err(
+        store_fault,
+    )?;
+    let others = entries::kept_near(alloc, tx, driver, start, past).map_err(store_fault)?;
+    let helds = rows_near(alloc, tx, SpanTable::Held, driver, start, past).map_err(store_fault)?;
+    rows_for(alloc, &cards, &others, &helds, start, past)
+}
+
 /// Marks a driver's entry as withdrawn, and returns the rows that replace those near it.
 fn mark<S: Alter>(
     alloc: Global,
@@ -115,22 +136,16 @@ fn mark<S: Alter>(
     start: u32,
     past: u32,
 ) -> Result<Vec<StoredSpan>, StoreFault>
-    ensures marked { ChangesWhere S.Store tx.old.conn tx.new.conn result (λ _. Unit {0})
-        (λ t. record t { entries = map (with_withdrawn driver number) t.entries }) }
+    ensures marked { ChangesWhere S.Store tx.old.conn tx.new.conn result (λ _. Unit {0}) (with_mark driver number) }
     ensures renewed { HasCleanDisk (state S.Store tx.new.conn.now)
         → IsArchive (state S.Store tx.old.conn.now).now
         → IfOk result (λ rows. (t : Tables) → HasTables (state S.Store tx.old.conn.now).now.trees t
         → AreRowsApart (driver_rows driver t.card_spans) → AreRowsApart (driver_rows driver t.held)
-        → AreRenewed t driver number start past rows.items) }
+        → AreRenewed (with_mark driver number t) driver start past rows.items) }
     ensures fault { IfErr result (λ fault. OrMemory StoreFault.Memory fault (fault ≡ StoreFault.Store)) }
 {
     entries::withdraw(tx, driver, number).map_err(store_fault)?;
-    let cards = rows_near(alloc, tx, SpanTable::CardSpans, driver, start, past).map_err(
-        store_fault,
-    )?;
-    let others = entries::kept_near(alloc, tx, driver, start, past).map_err(store_fault)?;
-    let helds = rows_near(alloc, tx, SpanTable::Held, driver, start, past).map_err(store_fault)?;
-    rows_for(alloc, &cards, &others, &helds, start, past)
+    rows_in_place(alloc, tx, driver, start, past)
 }
 
 /// Removes a driver's held rows near a range.

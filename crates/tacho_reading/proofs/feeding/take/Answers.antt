@@ -1,4 +1,4 @@
-use Rattle.std.proofs.Common.{rules, ◌≡◌, ◌<◌, ◌≤◌, ◌∙◌, ap, arith, false}
+use Rattle.std.proofs.Common.{rules, ◌≡◌, ◌∙◌, ap, arith}
 use Rattle.tacho_time.specs.declared.span.Span.{Span}
 use Rattle.tacho_reading.specs.Standing.{stored_span}
 use Rattle.tacho_reading.specs.Taken.{cut}

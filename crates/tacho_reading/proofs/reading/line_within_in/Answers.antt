@@ -1,46 +1,17 @@
 use Rattle.std.proofs.Common.{rules}
-use Rattle.tacho_reading.proofs.MappedLemmas.{was_ok}
-use Rattle.tacho_reading.proofs.LookUpLemmas.{the_driver, unknown_refuses, handed_on}
-use Rattle.tacho_reading.proofs.SeenLemmas.{still_seen}
+use Rattle.tacho_reading.proofs.LookUpLemmas.{handed_on, unknown_refuses}
 use Rattle.tacho_reading.proofs.ReadingLemmas.{nobody}
-use Rattle.tacho_reading.proofs.LineWithinLemmas.{range_answers, range_told}
+use Rattle.tacho_reading.proofs.LineWithinLemmas.{range_told}
+use Rattle.tacho_reading.proofs.TellLemmas.{tells_handed, tells_then, tells_weaker}
 use Rattle.tacho_reading.proofs.reading.line_within_in.Goals as goal
 
 pub returns-in_err-driver_with : goal.returns-in_err-driver_with
-returns-in_err-driver_with g c = record {
-  goes = search rules;
-  same = search rules;
-  told = λ clean schema s stands. (
-    handed_on _ _ c.from_residual.result _ (unknown_refuses c.args.driver s _ _ (nobody c.args.driver s _)
-        (c.in_err-driver_with.ensures.told clean schema s stands)) c.from_residual.ensures,
-    search rules,
-  );
-}
+returns-in_err-driver_with g c = tells_handed c.in_err-driver_with.ensures c.from_residual.ensures (λ db s stands unknown. (
+  handed_on _ _ c.from_residual.result _ (unknown_refuses c.args.driver s _ _ (nobody c.args.driver s _) unknown) c.from_residual.ensures,
+  search rules,
+))
 
 pub returns : goal.returns
-returns g c = record {
-  goes = search rules;
-  same = search rules;
-  told = λ clean schema s stands.
-      let clean_1 = c.rows_near.ensures.reads.stays.clean clean in
-      let d = the_driver c.args.driver s _ (c.in_ok-driver_with.ensures.told clean_1 schema s stands) in
-      let seen = still_seen _ _ s (c.in_ok-driver_with.ensures.same clean_1 schema) schema stands in
-      let read = was_ok c.rows_near.result c.in_ok-rows.rows _ c.in_ok-rows.ensures.cases (c.rows_near.ensures.found clean seen.0) in (
-        range_answers c.args.driver s d.0 c.line_of_stored.result d.1 c.line_of_stored.ensures.fault,
-        range_told _ s c.args.driver d.0 c.args.start c.args.past c.in_ok-rows.rows.items c.line_of_stored.result seen.1 d.1
-            (rw (c.number.ensures.value, c.number-2.ensures.value) at read)
-            (rw c.deref.ensures.value at c.line_of_stored.ensures.line),
-      );
-}
-
-pub returns-in_err-rows : goal.returns-in_err-rows
-returns-in_err-rows g c = record {
-  goes = record {
-    stays = search rules;
-    keeps = search rules;
-    live = search rules;
-    of_no_file = search rules;
-  };
-  same = search rules;
-  told = search rules;
-}
+returns g c = tells_weaker (tells_then c.in_ok-driver_with.ensures c.line_near.ensures) (λ db s stands (it, near).
+    range_told db s c.args.driver it.found.0 c.args.start c.args.past c.line_near.result stands it.found.1
+    (rw (c.number.ensures.value, c.number-2.ensures.value) at near))

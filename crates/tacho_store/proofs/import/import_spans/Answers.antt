@@ -1,9 +1,9 @@
 use Rattle.std.proofs.Common.{rules, refl, sym, subst}
 use Rattle.sqlite.specs.Held.{state}
 use Rattle.tacho_state.specs.Numbers.{part_number}
-use Rattle.tacho_store.proofs.StepsLemmas.{FollowsIn, still_follows, given_by, given_then}
+use Rattle.tacho_store.proofs.StepsLemmas.{FollowsIn, still_follows, given_by, given_told}
 use Rattle.tacho_store.proofs.AdditionLemmas.{repeated_answer, repeated_after}
-use Rattle.tacho_store.proofs.DecisionLemmas.{handed_fault, is_repeated, is_new, still_new}
+use Rattle.tacho_store.proofs.DecisionLemmas.{handed_fault, is_repeated, is_new}
 use Rattle.tacho_store.proofs.import.import_spans.Goals as goal
 
 pub returns-in_err-news_near-clause-steps : goal.returns-in_err-news_near-clause-steps
@@ -34,14 +34,12 @@ returns-in-None-clause-steps g c = given_by (search rules) (search rules) (searc
     (still_follows _ _ s (c.in_ok-news_near.ensures.same clean schema) schema stands))
 
 pub returns-in-Some-clause-steps : goal.returns-in-Some-clause-steps
-returns-in-Some-clause-steps g c = given_then c.add_download.ensures.steps
-    (λ clean schema. c.in_ok-news_near.ensures.same (c.add_download.ensures.steps.stays.clean clean) schema)
-    (search rules) (search rules) (search rules)
-    (λ clean schema s stands p given.
-    let clean_1 = c.add_download.ensures.steps.stays.clean clean in
-    let news = is_new _ s _ p.0 c.args.spans.now _ c.in-Some.news c.in-Some.is
-    (c.in_ok-news_near.ensures.told clean_1 schema s stands p.0 given.0.found) in (
-      (p.0, c.args.spans.now, p.1),
-      (given.0, still_new _ _ s _ p.0 c.args.spans.now _ _ (c.in_ok-news_near.ensures.same clean_1 schema) news, given.1),
-      refl,
-    ))
+returns-in-Some-clause-steps g c = given_told c.in_ok-news_near.ensures c.add_download.ensures.steps (λ db s stands news p given. (
+  (p.0, c.args.spans.now, p.1),
+  (
+    given.0,
+    is_new db s _ p.0 c.args.spans.now _ c.in-Some.news c.in-Some.is (news p.0 given.0.found),
+    given.1,
+  ),
+  refl,
+))

@@ -9,7 +9,7 @@ use Rattle.tacho_reading.proofs.LookUpLemmas.{handed_on}
 use Rattle.tacho_reading.specs.Standing.{Represents}
 use Rattle.tacho_reading.proofs.SeenLemmas.{still_archive}
 use Rattle.tacho_store.proofs.StepsLemmas.{keeps_after}
-use Rattle.tacho_store.proofs.WithdrawalLemmas.{not_entry, entry_marked, withdrawal_renews}
+use Rattle.tacho_store.proofs.WithdrawalLemmas.{entry_marked, withdrawal_renews}
 use Rattle.tacho_store.proofs.withdrawal.withdraw_one.Goals as goal
 
 pub returns-in_err-entry : goal.returns-in_err-entry
@@ -17,9 +17,7 @@ returns-in_err-entry g c = record {
   goes = search rules;
   schema = search rules;
   answer = λ clean schema s stands.
-      handed_on _ _ c.from_residual.result _
-      (not_entry c.args.driver c.args.number s _ (c.in_err-entry.ensures.told clean schema s stands))
-      c.from_residual.ensures;
+      handed_on _ _ c.from_residual.result _ (c.in_err-entry.ensures.told clean schema s stands).refused c.from_residual.ensures;
   renewed = search rules;
 }
 
@@ -50,11 +48,11 @@ returns g c = record {
       let clean_2 = c.rewrite.ensures.stays.clean clean in
       let clean_1 = c.mark.ensures.marked.stays.clean clean_2 in
       answers_mapped c.rewrite.result c.map_err.result _ c.map_err.ensures.cases
-      (λ _. entry_marked c.args.driver c.args.number s _ (c.in_ok-entry.ensures.told clean_1 schema s stands));
+      (λ _. entry_marked c.args.driver c.args.number s _ (c.in_ok-entry.ensures.told clean_1 schema s stands).found);
   renewed = λ clean schema t s stored of.
       let clean_2 = c.rewrite.ensures.stays.clean clean in
       let clean_1 = c.mark.ensures.marked.stays.clean clean_2 in
-      let entry = c.in_ok-entry.ensures.told clean_1 schema s (t, stored, of) in
+      let entry = (c.in_ok-entry.ensures.told clean_1 schema s (t, stored, of)).found in
       let same = c.in_ok-entry.ensures.same clean_1 schema in
       let seen = still_archive _ _ same schema in
       let schema_2 = c.in_ok-rows.ensures.marked.schema clean_2 seen in
