@@ -19,7 +19,7 @@ use Rattle.tacho_tables.specs.Calls.{Stays, Changes}
 use Rattle.tacho_tables.proofs.CallLemmas.{stays_then}
 use Rattle.tacho_tables.proofs.Inside.{keeps_then}
 use Rattle.tacho_tables.proofs.Stored.{stands_shuffled}
-use Rattle.tacho_tables.proofs.Firsts.{chunks_joined, joined, moved, next_there}
+use Rattle.tacho_tables.proofs.Firsts.{by_places, chunk_long, chunks_joined, chunks_many, joined, moved, next_there}
 use Rattle.tacho_tables.proofs.Kept.{kept_itself}
 use Rattle.tacho_tables.proofs.TableLemmas.{IsTable}
 
@@ -87,6 +87,17 @@ module _ {R : Type 0} {columns : R → Row} {name : List ℕ} {kinds : List Colu
         ∙ ap (λ l. row n x ∷ l) (split (n + 1) part rest ∙ ap (λ k. rows (n + 1) part ++ rows k rest) last)
         ∙ ap (λ l. l ++ rows (n + length (x ∷ part)) rest) (sym (follows n x part))
 
+    -- the rows of four elements
+    four_rows : (n : ℕ) (a b c d : X) → rows n (a ∷ b ∷ c ∷ d ∷ []) ≡ row n a ∷ row (n + 1) b ∷ row (n + 2) c ∷ row (n + 3) d ∷ []
+    four_rows n a b c d =
+        let two : n + 1 + 1 ≡ n + 2 = omega arith in
+        let three : n + 2 + 1 ≡ n + 3 = omega arith in
+        follows n a (b ∷ c ∷ d ∷ [])
+        ∙ ap (λ l. row n a ∷ l) (follows (n + 1) b (c ∷ d ∷ []) ∙ ap (λ k. row (n + 1) b ∷ rows k (c ∷ d ∷ [])) two)
+        ∙ ap (λ l. row n a ∷ row (n + 1) b ∷ l) (follows (n + 2) c (d ∷ []) ∙ ap (λ k. row (n + 2) c ∷ rows k (d ∷ [])) three)
+        ∙ ap (λ l. row n a ∷ row (n + 1) b ∷ row (n + 2) c ∷ l)
+        (follows (n + 3) d [] ∙ ap (λ l. row (n + 3) d ∷ l) (nothing (n + 3 + 1)))
+
     -- before the first chunk, all chunks and `rest` are left to add
     pub left_in_chunks : (n first : ℕ) (xs : List X) {chunks : List (List X)} {rest : List X} (old : State)
         → chunks ≡ first_chunks n (length xs / n) xs → rest ≡ drop (length xs / n * n) xs → IsArchive old.now
@@ -127,16 +138,38 @@ module _ {R : Type 0} {columns : R → Row} {name : List ℕ} {kinds : List Colu
           (subst (λ l. HasStill g get put all l old mid)
           (ap (λ l. rows number (joined l rest)) (next_there d count chunks within) ∙ split number chunk others) was) it
 
+      -- one call adds the next four; the later chunks and `rest` are left to add
+      pub adds_four : (d : X) (xs rest : List X) {fours : List (List X)} {count number : ℕ} {p q r s : R}
+          {old mid now : MutBor (Held S)}
+          → HasStill g get put all (rows number (joined (drop count fours) rest)) old mid
+          → fours ≡ first_chunks 4 (length xs / 4) xs → count < length fours
+          → p ≡ row number (get_or (get_or fours count []) 0 d) → q ≡ row (number + 1) (get_or (get_or fours count []) 1 d)
+          → r ≡ row (number + 2) (get_or (get_or fours count []) 2 d) → s ≡ row (number + 3) (get_or (get_or fours count []) 3 d)
+          → Changes g mid now {A = A} {E = E} (Ok x) (λ a. put (p ∷ q ∷ r ∷ s ∷ get a) a)
+          → HasStill g get put all (rows (number + 4) (joined (drop (count + 1) fours) rest)) old now
+      adds_four d xs rest {fours} {count} {number} {p} {q} {r} {s} {old} {mid} {now} was front within first second third fourth it =
+          let four = get_or fours count [] in
+          let many : length fours ≡ length xs / 4 = ap length front ∙ chunks_many 4 (length xs / 4) xs in
+          let long : length four ≡ 4 = ap (λ l. length (get_or l count [])) front
+          ∙ chunk_long [] 4 (length xs / 4) xs (omega arith) count (omega (arith, within, many)) in
+          let same : rows number four ≡ p ∷ q ∷ r ∷ s ∷ [] =
+          ap (rows number) (by_places d 4 four long) ∙ four_rows number (get_or four 0 d) (get_or four 1 d) (get_or four 2 d) (get_or four 3 d)
+          ∙ ap₂ (λ x y. x ∷ y ∷ row (number + 2) (get_or four 2 d) ∷ row (number + 3) (get_or four 3 d) ∷ []) (sym first) (sym second)
+          ∙ ap₂ (λ x y. p ∷ q ∷ x ∷ y ∷ []) (sym third) (sym fourth) in
+          subst (λ k. HasStill g get put all (rows (number + k) (joined (drop (count + 1) fours) rest)) old now) long
+          (adds_chunk [] fours rest was within (subst (λ l. Changes g mid now {A = A} {E = E} (Ok x) (λ a. put (l ++ get a) a)) (sym same) it))
+
       -- one call adds the next row that is left
-      pub adds_one : (d : X) (left : List X) {count number : ℕ} {old mid now : MutBor (Held S)}
-          → HasStill g get put all (rows number (drop count left)) old mid → count < length left
-          → Changes g mid now {A = A} {E = E} (Ok x) (λ a. put (row number (get_or left count d) ∷ get a) a)
+      pub adds_one : (d : X) (left : List X) {count number : ℕ} {r : R} {old mid now : MutBor (Held S)}
+          → HasStill g get put all (rows number (drop count left)) old mid → count < length left → r ≡ row number (get_or left count d)
+          → Changes g mid now {A = A} {E = E} (Ok x) (λ a. put (r ∷ get a) a)
           → HasStill g get put all (rows (number + 1) (drop (count + 1) left)) old now
-      adds_one d left {count} {number} {old} {mid} {now} was within it =
-          let one = get_or left count d in
-          adds_some (row number one ∷ []) (rows (number + 1) (drop (count + 1) left))
+      adds_one d left {count} {number} {r} {old} {mid} {now} was within is it =
+          let others = rows (number + 1) (drop (count + 1) left) in
+          adds_some (r ∷ []) others
           (subst (λ l. HasStill g get put all l old mid)
-          (ap (rows number) (next_there d count left within) ∙ follows number one (drop (count + 1) left)) was) it
+          (ap (rows number) (next_there d count left within) ∙ follows number (get_or left count d) (drop (count + 1) left)
+          ∙ ap (λ x. x ∷ others) (sym is)) was) it
 
       -- once no row is left, all were added
       pub added_all : (left : List X) {count number : ℕ} {old now : MutBor (Held S)}

@@ -45,8 +45,15 @@ no_entry = record {
   note = record { ref_ptr = (0, 0); now = [] };
 }
 
+-- its list of `Tables`, and the tables with another list in its place
+abbrev pub entries_in : Tables → List EntryRow
+entries_in a = a.entries
+
+abbrev pub with_entry_rows : List EntryRow → Tables → Tables
+with_entry_rows rows a = record a { entries = rows }
+
 pub entry_table : IsTable entry_columns (codes "entry_rows") made.entry_rows.columns made.entry_rows.checks entry_place entry_tree
-    (λ a. a.entries) (λ xs a. record a { entries = xs })
+    entries_in with_entry_rows
 entry_table = record {
   at = entries_at;
   cast = λ layout x. rw (

@@ -3,6 +3,7 @@ use Rattle.sqlite.specs.Held.{state}
 use Rattle.tacho_state.specs.Batch.{Hours, batch_of, entry_of}
 use Rattle.tacho_tables.specs.Rows.{EntryRow}
 use Rattle.tacho_tables.proofs.BatchLemmas.{left_in_chunks, added_chunks, adds_four, adds_one, added_all}
+use Rattle.tacho_tables.proofs.EntryLemmas.{entry_table}
 use Rattle.tacho_tables.proofs.Firsts.{chunk_long}
 use Rattle.tacho_reading.specs.Standing.{entry_row, rows_of_entries}
 use Rattle.tacho_store.proofs.EnteringLemmas.{any_default}
@@ -21,7 +22,7 @@ loop-a-init g c = (
   record {
     stays = search rules;
     keeps = search rules;
-    left = λ clean is. left_in_chunks (row c.args.driver) (rows c.args.driver) (λ n x xs. refl) 4
+    left = λ clean is. left_in_chunks entry_table (row c.args.driver) (rows c.args.driver) (λ n. refl) (λ n x xs. refl) 4
         c.args.first c.args.lines.now (state g.S.Store c.args.tx.now.conn.now) c.as_chunks.ensures.front c.as_chunks.ensures.back is;
   },
 )
@@ -50,7 +51,7 @@ loop-a-preserved g c =
     let is : (k i : ℕ) (x : Hours) → k < 4 → row n i (get_or c.a-item.result k x) ≡ row n i (get_or four k none) = λ k i x below.
     ap (row n i) (line k x below) in (
       omega (arith, number),
-      adds_four (row n) (rows n) (λ n x xs. refl) none lines c.as_chunks.result.1.now c.loop-a.invariant.1
+      adds_four entry_table (row n) (rows n) (λ n. refl) (λ n x xs. refl) none lines c.as_chunks.result.1.now c.loop-a.invariant.1
           c.as_chunks.ensures.front within
           (c.new_entry.ensures n ∙ is 0 _ _ (omega arith)) (c.new_entry-in-loop-a.ensures n ∙ is 1 _ _ (omega arith))
           (c.new_entry-in-loop-a-2.ensures n ∙ is 2 _ _ (omega arith)) (c.new_entry-in-loop-a-3.ensures n ∙ is 3 _ _ (omega arith))
@@ -62,7 +63,7 @@ loop-line-init g c =
     let number = c.loop-a.invariant.0 in
     let many = c.as_chunks.ensures.front_len in (
       omega (arith, number, many, c.loop-a-test.false),
-      added_chunks (row c.args.driver) (rows c.args.driver) (λ n x xs. refl) c.as_chunks.result.0.now c.as_chunks.result.1.now
+      added_chunks entry_table (row c.args.driver) (rows c.args.driver) (λ n. refl) (λ n x xs. refl) c.as_chunks.result.0.now c.as_chunks.result.1.now
           c.loop-a.invariant.1 c.loop-a-test.false,
     )
 
@@ -71,11 +72,11 @@ loop-line-preserved g c =
     let n = c.args.driver in
     let number = c.loop-line.invariant.0 in (
       omega (arith, number),
-      adds_one (row n) (rows n) (λ n x xs. refl) c.line-item.result c.as_chunks.result.1.now c.loop-line.invariant.1 c.loop-line-test.true
+      adds_one entry_table (row n) (rows n) (λ n. refl) (λ n x xs. refl) c.line-item.result c.as_chunks.result.1.now c.loop-line.invariant.1 c.loop-line-test.true
           (c.new_entry-in-loop-line.ensures n ∙ ap (row n c.loop-line.number) c.line-item.is) c.in_ok-insert.ensures,
     )
 
 pub returns : goal.returns
 returns g c =
-    added_all (row c.args.driver) (rows c.args.driver) (λ n x xs. refl) c.as_chunks.result.1.now refl c.loop-line.invariant.1
+    added_all entry_table (row c.args.driver) (rows c.args.driver) (λ n. refl) (λ n x xs. refl) c.as_chunks.result.1.now c.loop-line.invariant.1
     c.loop-line-test.false

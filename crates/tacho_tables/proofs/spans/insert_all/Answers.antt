@@ -35,7 +35,8 @@ loop-span-init g c =
 pub loop-span-preserved : goal.loop-span-preserved
 loop-span-preserved g c =
     adds_one (span_table c.args.table) (row c.args.driver) (rows c.args.driver) (λ n. refl) (λ n x xs. refl) _ c.as_chunks.result.1.now
-    {number = 0} c.loop-span.invariant c.loop-span-test.true c.in_ok-insert.ensures
+    {number = 0} c.loop-span.invariant c.loop-span-test.true
+    refl c.in_ok-insert.ensures
 
 pub returns : goal.returns
 returns g c =
