@@ -1,5 +1,5 @@
 -- Consecutive calls within a transaction.
-use Rattle.std.proofs.Common.{◌∙◌, ℕ, Err, List, Ok, OnOk, Result, subst, sym}
+use Rattle.std.proofs.Common.{◌≡◌, ◌∙◌, ℕ, Err, List, Ok, OnOk, Result, subst, sym}
 use Rattle.std.specs.Borrow.{MutBor}
 use Rattle.std.proofs.lemmas.Result.{IfOk-weaker, on_ok_weaker}
 use Rattle.sqlite.specs.Effect.{Database}
@@ -13,6 +13,8 @@ use Rattle.sqlite.specs.Held.{Held, state}
 use Rattle.sqlite.proofs.StateLemmas.{survives_then}
 use Rattle.tacho_tables.specs.Schema.{Layout, archive_schema}
 use Rattle.tacho_tables.specs.Tables.{Tables, HasTables, IsArchive, Turns}
+use Rattle.sqlite.specs.Tree.{Trees}
+use Rattle.tacho_tables.specs.Ask.{Learns}
 use Rattle.tacho_tables.specs.Calls.{Stays, ReadsOf, ReadsText, RunsText, Changes, Finds}
 use Rattle.tacho_tables.proofs.Inside.{keeps_then}
 
@@ -78,4 +80,22 @@ changes {r = r} it turned = record {
   stays = it.stays;
   keeps = it.keeps;
   turned = λ clean is. on_ok_weaker r (λ ran. turned is ran.0 ran.1) (it.ran clean);
+}
+
+-- a reading of an archive that returns the rows that its text shows
+pub learns : {S : Type 0} {g : Ghosts S} {a b : MutBor (Held S)} {A E : Type 0} (items : A → List Row) {r : Result A E} {text : List ℕ}
+    {params : Row} → ReadsText g a b r text params (λ rows found. items found ≡ rows) → (fact : Layout → Trees → List Row → Type 0)
+    → ((is : IsArchive (state g a.now).now) → IsPlain (understood (state g a.now).now.schema text))
+    → ((is : IsArchive (state g a.now).now) (rows : List Row) → Shown text params (state g a.now) (state g b.now) rows
+    → fact is.layout (state g a.now).now.trees rows)
+    → Learns g a b r (λ layout db found. fact layout db (items found))
+learns {g = g} {a = a} items {r = r} it fact plain shown = record {
+  reads = record {
+    stays = it.stays;
+    keeps = λ clean is. it.keeps clean (plain is);
+    live = it.live;
+    same = λ clean is. it.same clean (plain is);
+  };
+  found = λ clean is. IfOk-weaker r _ _
+      (λ answer was. subst (fact is.layout (state g a.now).now.trees) (sym was.2) (shown is was.0 was.1)) (it.told clean);
 }

@@ -18,8 +18,8 @@ use Rattle.sqlite_sql.specs.Query.{Query, IsAnswer, output, Output}
 use Rattle.tacho_tables.specs.Schema.{Layout, Made, Carried, archive_schema, has_tables, old_names}
 use Rattle.tacho_tables.specs.Tables.{IsArchive}
 use Rattle.tacho_tables.specs.Ask.{AreFirst, has_old_table, meta_text, old_entries_text, meta_shown, old_entry_shown}
-use Rattle.tacho_tables.proofs.Answers.{simple}
-use Rattle.tacho_tables.proofs.SpanLemmas.{none_given}
+use Rattle.tacho_tables.proofs.Answers.{none_given, simple}
+use Rattle.tacho_tables.proofs.Statements.{IsStatement, stated}
 
 -- a query for at most `count` rows of one table
 abbrev pub first_rows : ℕ → ℕ → List Term → Query
@@ -47,10 +47,9 @@ shows count t shown db params rows a =
     }
 
 -- under the schema the text shows these columns of at most `count` rows of a table
-pub record IsReadingUpTo (schema : Schema) (text : List ℕ) (count t : ℕ) (shown : List Term) (names : List (List ℕ)) : Type 0 where
-  pub meant : command_of (understood schema text) ≡ Select (record { lets = []; body = first_rows count t shown }) names
-  pub unlisted : reads_listing schema text ≡ false
-  pub plain : IsPlain (understood schema text)
+abbrev pub IsReadingUpTo : Schema → List ℕ → ℕ → ℕ → List Term → List (List ℕ) → Type 0
+IsReadingUpTo schema text count t shown names =
+    IsStatement schema text (Select (record { lets = []; body = first_rows count t shown }) names)
 
 abbrev pub meta_terms : List Term
 meta_terms = col 1 0 ∷ col 1 2 ∷ []
@@ -60,8 +59,7 @@ old_entry_terms = col 1 1 ∷ []
 
 pub meta_is : (layout : Layout) → IsReadingUpTo (archive_schema layout) meta_text 2 0 meta_terms (codes "id" ∷ codes "version" ∷ [])
 unfolding understood everything
-meta_is Made = record { meant = refl; unlisted = refl; plain = (refl, refl) }
-meta_is Carried = record { meant = refl; unlisted = refl; plain = (refl, refl) }
+meta_is = stated _ _ refl
 
 pub old_entries_is : IsReadingUpTo (archive_schema Carried) old_entries_text 1 8 old_entry_terms (codes "driver" ∷ [])
 unfolding understood everything

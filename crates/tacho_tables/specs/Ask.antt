@@ -1,30 +1,29 @@
 -- Private to tacho_tables: Readings of rows as they are stored.
 use Rattle.std.specs.Prelude.{◌≡◌, ℕ, ℤ, Bool, List, [], ◌∷◌, codes, map, take, Result, IfOk, IsPermutation}
 use Rattle.std.specs.Borrow.{MutBor}
-use Rattle.sqlite.specs.Held.{Held, state}
+use Rattle.sqlite.specs.Held.{Held as Connection, state}
 use Rattle.sqlite.specs.Order.{Row, column}
 use Rattle.sqlite.specs.State.{State, HasCleanDisk}
 use Rattle.sqlite.specs.Store.{Ghosts}
 use Rattle.sqlite.specs.Tree.{Trees}
 use Rattle.tacho_tables.specs.declared.table.TableName.{TableName}
+use Rattle.tacho_tables.specs.declared.table.TableName.TheVariants.{Drivers, Downloads, CardSpans, EntryRows, Held}
 use Rattle.tacho_tables.specs.Schema.{Layout, has_tables, old_names}
 use Rattle.tacho_tables.specs.Tables.{IsArchive}
 use Rattle.tacho_tables.specs.Calls.{Reads}
 use Rattle.tacho_tables.specs.Readable.{IsReadable, own_rows, stored_rows}
 
--- a reading whose answer is a fact of the stored rows
-pub record Asks {S : Type 0} (g : Ghosts S) (old new : MutBor (Held S)) {A E : Type 0} (result : Result A E)
-    (fact : Layout → Trees → A → Type 0) : Type 0 where
-  pub reads : Reads g old new result
-  pub found : HasCleanDisk (state g new.now) → (is : IsArchive (state g old.now).now) → IsReadable is.layout (state g old.now).now.trees
-      → IfOk result (fact is.layout (state g old.now).now.trees)
-
 -- a reading of an archive, whatever rows it has, whose answer is a fact of the stored rows
-pub record Learns {S : Type 0} (g : Ghosts S) (old new : MutBor (Held S)) {A E : Type 0} (result : Result A E)
+pub record Learns {S : Type 0} (g : Ghosts S) (old new : MutBor (Connection S)) {A E : Type 0} (result : Result A E)
     (fact : Layout → Trees → A → Type 0) : Type 0 where
   pub reads : Reads g old new result
   pub found : HasCleanDisk (state g new.now) → (is : IsArchive (state g old.now).now)
       → IfOk result (fact is.layout (state g old.now).now.trees)
+
+-- likewise of an archive whose rows can be read as those of drivers
+abbrev pub Asks : {S : Type 0} → Ghosts S → MutBor (Connection S) → MutBor (Connection S) → {A E : Type 0} → Result A E
+    → (Layout → Trees → A → Type 0) → Type 0
+Asks g old new result fact = Learns g old new result (λ layout db found. IsReadable layout db → fact layout db found)
 
 -- there is a table of schema 1
 abbrev pub has_old_table : State → Bool
@@ -51,6 +50,14 @@ driver_values w = column w 0 ∷ column w 2 ∷ column w 3 ∷ column w 4 ∷ co
 abbrev pub number_shown : Row → Row
 number_shown w = column w 0 ∷ []
 
+-- of a driver's row of a table
+abbrev pub shown_of : TableName → Row → Row
+shown_of Drivers = driver_values
+shown_of Downloads = three_shown
+shown_of CardSpans = three_shown
+shown_of EntryRows = seven_shown
+shown_of Held = three_shown
+
 -- of `meta`, and of the table of schema 1
 abbrev pub meta_shown : Row → Row
 meta_shown w = column w 0 ∷ column w 2 ∷ []
@@ -70,20 +77,13 @@ pub record AreFirst (count : ℕ) (shown found : List Row) : Type 0 where
 
 -- ---- the SQL of the readings
 
-abbrev pub files_text : List ℕ
-files_text = codes "SELECT number, part, file FROM downloads WHERE driver = ?1"
-
-abbrev pub cards_text : List ℕ
-cards_text = codes "SELECT start, past, mark FROM card_spans WHERE driver = ?1"
-
-abbrev pub own_entries_text : List ℕ
-own_entries_text = codes "SELECT number, start, past, mark, withdrawn, author, note FROM entry_rows WHERE driver = ?1"
-
-abbrev pub held_text : List ℕ
-held_text = codes "SELECT start, past, mark FROM held WHERE driver = ?1"
-
-abbrev pub driver_text : List ℕ
-driver_text = codes "SELECT driver, holder, secret, base, name, downloads, entries FROM drivers WHERE driver = ?1"
+-- a driver's rows of a table
+abbrev pub own_text : TableName → List ℕ
+own_text Drivers = codes "SELECT driver, holder, secret, base, name, downloads, entries FROM drivers WHERE driver = ?1"
+own_text Downloads = codes "SELECT number, part, file FROM downloads WHERE driver = ?1"
+own_text CardSpans = codes "SELECT start, past, mark FROM card_spans WHERE driver = ?1"
+own_text EntryRows = codes "SELECT number, start, past, mark, withdrawn, author, note FROM entry_rows WHERE driver = ?1"
+own_text Held = codes "SELECT start, past, mark FROM held WHERE driver = ?1"
 
 abbrev pub numbers_text : List ℕ
 numbers_text = codes "SELECT driver FROM drivers"

@@ -1,22 +1,12 @@
-use Rattle.std.proofs.lemmas.Result.{IfOk-weaker}
-use Rattle.sqlite.specs.Held.{state}
-use Rattle.tacho_tables.proofs.CallLemmas.{plain_in}
-use Rattle.tacho_tables.specs.Ask.{numbers_text}
-use Rattle.tacho_tables.proofs.DriverAskLemmas.{numbers_are, asked_numbers}
+use Rattle.tacho_tables.specs.Ask.{Show, number_shown}
+use Rattle.tacho_tables.specs.Readable.{IsReadable}
+use Rattle.tacho_tables.specs.Schema.{driver_rows}
+use Rattle.tacho_tables.proofs.CallLemmas.{learns, plain_in}
+use Rattle.tacho_tables.proofs.AskLemmas.{numbers_are, asked_numbers}
 use Rattle.tacho_tables.proofs.asking.number_rows.Goals as goal
 
 pub returns : goal.returns
 returns g c =
-    let told = c.read.ensures in
-    let old = state g.S.Store c.args.tx.now.conn.now in
-    let new = state g.S.Store c.read.new.tx.conn.now in
-    record {
-      reads = record {
-        stays = told.stays;
-        keeps = λ clean known. told.keeps clean (plain_in numbers_text (λ layout. (numbers_are layout).plain) _ known);
-        live = told.live;
-        same = λ clean known. told.same clean (plain_in numbers_text (λ layout. (numbers_are layout).plain) _ known);
-      };
-      found = λ clean is it. IfOk-weaker c.read.result _ _
-          (λ rows shown. asked_numbers is.layout old new rows.items is.schema shown) (told.shown clean);
-    }
+    learns (λ rows. rows.items) c.read.ensures (λ layout db rows. IsReadable layout db → Show number_shown (db driver_rows) rows)
+    (plain_in _ (λ layout. (numbers_are layout).plain) _)
+    (λ is rows shown it. asked_numbers is.layout _ _ rows is.schema shown)
