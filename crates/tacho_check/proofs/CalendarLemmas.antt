@@ -20,7 +20,7 @@ use Rattle.tacho_state.specs.Disjoint.{AreDisjoint, Keeps}
 use Rattle.tacho_state.specs.Steps.{Content}
 use Rattle.tacho_state.specs.Content.{ReadTells}
 use Rattle.tacho_state.specs.Within.{IsEntry, IsOf}
-use Rattle.tacho_check.specs.Parsed.{IsInCalendar}
+use Rattle.tacho_check.specs.Typed.{IsInCalendar}
 
 -- ---- card files
 

@@ -80,11 +80,6 @@ stands_before ns order i x within is m has low = go (contains_had ns m has) wher
 
 -- ---- all drivers
 
--- a fact of an answer that holds under a premise
-pub if_so : {A E : Type 0} (r : Result A E) (P : Type 0) (Q : A → Type 0) → (P → IfOk r Q) → IfOk r (λ x. P → Q x)
-if_so (Ok x) P Q h = h
-if_so (Err e) P Q h = tt
-
 has_permuted : {X : Type 0} (xs ys : List X) (x : X) → IsPermutation xs ys → Has xs x → Has ys x
 has_permuted xs ys x same has =
     all_has (Has ys) xs x (all-permutation (Has ys) ys xs (IsPermutation-sym xs ys same) (all_from (Has ys) ys (λ e h. h))) has

@@ -17,7 +17,7 @@ use Rattle.tacho_tables.specs.Schema as tree
 use Rattle.tacho_tables.specs.Tables.{IsVersion, HasNoOldEntries}
 use Rattle.tacho_tables.specs.Ask.{AreFirst, meta_shown, old_entry_shown}
 use Rattle.tacho_check.specs.Current.{current_shown}
-use Rattle.tacho_check.proofs.OwnLemmas.{none_moved}
+use Rattle.tacho_check.proofs.ShownLemmas.{one_mapped, none_shown}
 use Rattle.tacho_check.proofs.SpreadLemmas.{single}
 use Rattle.tacho_check.proofs.TypeLemmas.{null_of, row_typed}
 
@@ -33,18 +33,6 @@ one_taken x (y ∷ z ∷ xs) e = absurd (let g = e in cc)
 none_taken : {X : Type 0} (xs : List X) → take 1 xs ≡ [] → xs ≡ []
 none_taken [] e = refl
 none_taken (y ∷ xs) e = absurd (let g = e in cc)
-
--- a list with one image has one element
-one_mapped : (shown : Row → Row) (rows : List Row) (row : Row) → map shown rows ≡ row ∷ []
-    → (w : Row) × (rows ≡ w ∷ []) × (shown w ≡ row)
-one_mapped shown [] row e = absurd (let g = e in cc)
-one_mapped shown (w ∷ []) row e = let same : shown w ≡ row = let g = e in cc in (w, refl, same)
-one_mapped shown (w ∷ v ∷ rows) row e = absurd (let g = e in cc)
-
--- a list without images is empty
-none_mapped : (shown : Row → Row) (rows : List Row) → map shown rows ≡ [] → rows ≡ []
-none_mapped shown [] e = refl
-none_mapped shown (w ∷ rows) e = absurd (let g = e in cc)
 
 -- ---- `meta`
 
@@ -99,8 +87,7 @@ pub none_stored : (db : Trees) (rows : List Row) → AreFirst 1 (map old_entry_s
 none_stored db rows shown is =
     let stored = db tree.old_entry_tree in
     let listed = none_taken shown.listed (sym shown.first ∙ is) in
-    none_mapped old_entry_shown stored (none_moved (map old_entry_shown stored)
-    (IsPermutation-sym (map old_entry_shown stored) [] (subst (IsPermutation (map old_entry_shown stored)) listed shown.same)))
+    none_shown old_entry_shown stored shown.listed shown.same listed
 
 pub no_old_entries : (layout : Layout) (db : Trees) → db tree.old_entry_tree ≡ [] → HasNoOldEntries layout db
 no_old_entries Made db none = tt

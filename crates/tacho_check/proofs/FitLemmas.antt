@@ -20,7 +20,8 @@ use Rattle.tacho_reading.specs.Standing.{driver_columns, rows_of_downloads, rows
 use Rattle.tacho_check.specs.Check.{place}
 use Rattle.tacho_check.specs.Registered.{HasOwnColumns, registration_in}
 use Rattle.tacho_check.specs.Member.{Member, member_rows, HasMember}
-use Rattle.tacho_check.specs.Fits.{Agrees, DownloadsFit, CardsFit, EntriesFit, HeldFits}
+use Rattle.tacho_check.specs.Fits.{Agrees, DownloadsFit, EntriesFit, SpansFit}
+use Rattle.tacho_check.proofs.AbsentLemmas.{up_to}
 use Rattle.tacho_check.proofs.SpreadLemmas.{single}
 use Rattle.tacho_check.proofs.WitnessLemmas.{blank_tells, blank_holder, blank_downloads, blank_count, blank_given, blank_entries, entry_count, blank_entered, blank_full}
 
@@ -103,26 +104,24 @@ module _ (rows : TableName → List Row) (r : DriverRow) (own : rows Drivers ≡
       subst (λ (k : ℕ). AreColumns (registration_in r) k (length es)) (sym first)
       (subst (λ (k : ℕ). AreColumns (registration_in r) r.downloads k) (sym second) columns)
 
-  -- the rows of a member up to a table, from those of each
+  -- a member up to a table, from what is known of each table up to it
   built : (k : TableName) (ds : List Download) (es : List Entry) (cards held : List Span) → AreRead ds → AreFull es
-      → (place Downloads ≤ place k → AllByRecursion (IsOf r.holder) ds) → (place EntryRows ≤ place k → AllByRecursion IsEntry es)
+      → (1 ≤ place k → AllByRecursion (IsOf r.holder) ds) → (3 ≤ place k → AllByRecursion IsEntry es)
       → Keeps cards (Gives (given_spans ds)) → Keeps held (Gives (given_spans ds ++ entered_spans es))
       → length ds ≡ r.downloads → length es ≡ r.entries
-      → ((j : TableName) → 1 ≤ place j → place j ≤ place k → IsPermutation (member_rows j (member_of ds es cards held)) (rows j))
+      → (1 ≤ place k → IsPermutation (map download_columns (rows_of_downloads r.driver 1 ds)) (rows Downloads))
+      → (2 ≤ place k → IsPermutation (map span_columns (map (span_row r.driver) cards)) (rows CardSpans))
+      → (3 ≤ place k → IsPermutation (map entry_columns (rows_of_entries r.driver 1 es)) (rows EntryRows))
+      → (4 ≤ place k → IsPermutation (map span_columns (map (span_row r.driver) held)) (rows Held))
       → HasMember rows (pos r.driver) k
-  built k ds es cards held read full files entries card_keeps held_keeps first second each = record {
+  built k ds es cards held read full files entries card_keeps held_keeps first second a b c d = record {
     member = member_of ds es cards held;
     whole = record { read = read; full = full; cards = card_keeps; held = held_keeps };
     number = refl;
     within = record { columns = columns_of ds es cards held first second; files = files; entries = entries };
-    same = all;
-  } where
-    all : (j : TableName) → place j ≤ place k → IsPermutation (member_rows j (member_of ds es cards held)) (rows j)
-    all Drivers before = IsPermutation-same _ _ (ap (λ (x : DriverRow). driver_row x ∷ []) (row_is ds es cards held first second) ∙ sym own)
-    all Downloads before = each Downloads (omega arith) before
-    all CardSpans before = each CardSpans (omega arith) before
-    all EntryRows before = each EntryRows (omega arith) before
-    all Held before = each Held (omega arith) before
+    same = up_to k (λ j. IsPermutation (member_rows j (member_of ds es cards held)) (rows j))
+        (IsPermutation-same _ _ (ap (λ (x : DriverRow). driver_row x ∷ []) (row_is ds es cards held first second) ∙ sym own)) a b c d;
+  }
 
   -- ---- rows that fit have a member
 
@@ -130,76 +129,48 @@ module _ (rows : TableName → List Row) (r : DriverRow) (own : rows Drivers ≡
   drivers_have =
       let ds = blank_downloads r.downloads in
       let es = blank_entries r.entries in
+      let none = nothing_kept (given_spans ds) (blank_given r.downloads) in
       built Drivers ds es [] [] (blank_read r.downloads) (blank_full r.entries) (λ before. absurd (omega (arith, before)))
-      (λ before. absurd (omega (arith, before))) (nothing_kept (given_spans ds) (blank_given r.downloads))
-      (without_entries [] (given_spans ds) (entered_spans es) (blank_entered r.entries)
-      (nothing_kept (given_spans ds) (blank_given r.downloads)))
-      (blank_count r.downloads) (entry_count r.entries)
-      (λ j after before. absurd (omega (arith, after, before)))
+      (λ before. absurd (omega (arith, before))) none
+      (without_entries [] (given_spans ds) (entered_spans es) (blank_entered r.entries) none) (blank_count r.downloads)
+      (entry_count r.entries) (λ before. absurd (omega (arith, before))) (λ before. absurd (omega (arith, before)))
+      (λ before. absurd (omega (arith, before))) (λ before. absurd (omega (arith, before)))
 
-  pub downloads_have : (ds : List Download) → DownloadsFit r.driver r.holder r.downloads (rows Downloads) ds
-      → HasMember rows (pos r.driver) Downloads
-  downloads_have ds fit =
-      let es = blank_entries r.entries in
-      let line = kept_list (given_spans ds) fit.agrees in
-      built Downloads ds es line.0 line.0 (own_read r.holder ds fit.own) (blank_full r.entries) (λ before. fit.own)
-      (λ before. absurd (omega (arith, before))) line.1
-      (without_entries line.0 (given_spans ds) (entered_spans es) (blank_entered r.entries) line.1) fit.count_is (entry_count r.entries)
-      (each es line.0) where
-        each : (es : List Entry) (line : List Span) (j : TableName) → 1 ≤ place j → place j ≤ place Downloads
-            → IsPermutation (member_rows j (member_of ds es line line)) (rows j)
-        each es line Drivers after before = absurd (omega (arith, after))
-        each es line Downloads after before = fit.same
-        each es line CardSpans after before = absurd (omega (arith, before))
-        each es line EntryRows after before = absurd (omega (arith, before))
-        each es line Held after before = absurd (omega (arith, before))
+  module _ (ds : List Download) (fit : DownloadsFit r.driver r.holder r.downloads (rows Downloads) ds) where
+    pub downloads_have : HasMember rows (pos r.driver) Downloads
+    downloads_have =
+        let es = blank_entries r.entries in
+        let line = kept_list (given_spans ds) fit.agrees in
+        built Downloads ds es line.0 line.0 (own_read r.holder ds fit.own) (blank_full r.entries) (λ before. fit.own)
+        (λ before. absurd (omega (arith, before))) line.1
+        (without_entries line.0 (given_spans ds) (entered_spans es) (blank_entered r.entries) line.1) fit.count_is
+        (entry_count r.entries) (λ before. fit.same) (λ before. absurd (omega (arith, before)))
+        (λ before. absurd (omega (arith, before))) (λ before. absurd (omega (arith, before)))
 
-  pub cards_have : (ds : List Download) (cards : List Span) → DownloadsFit r.driver r.holder r.downloads (rows Downloads) ds
-      → CardsFit r.driver (rows CardSpans) ds cards → HasMember rows (pos r.driver) CardSpans
-  cards_have ds cards fit card_fit =
-      let es = blank_entries r.entries in
-      built CardSpans ds es cards cards (own_read r.holder ds fit.own) (blank_full r.entries) (λ before. fit.own)
-      (λ before. absurd (omega (arith, before))) card_fit.keeps
-      (without_entries cards (given_spans ds) (entered_spans es) (blank_entered r.entries) card_fit.keeps) fit.count_is
-      (entry_count r.entries)
-      (each es) where
-        each : (es : List Entry) (j : TableName) → 1 ≤ place j → place j ≤ place CardSpans
-            → IsPermutation (member_rows j (member_of ds es cards cards)) (rows j)
-        each es Drivers after before = absurd (omega (arith, after))
-        each es Downloads after before = fit.same
-        each es CardSpans after before = card_fit.same
-        each es EntryRows after before = absurd (omega (arith, before))
-        each es Held after before = absurd (omega (arith, before))
+    module _ (cards : List Span) (card_fit : SpansFit r.driver (rows CardSpans) (given_spans ds) cards) where
+      pub cards_have : HasMember rows (pos r.driver) CardSpans
+      cards_have =
+          let es = blank_entries r.entries in
+          built CardSpans ds es cards cards (own_read r.holder ds fit.own) (blank_full r.entries) (λ before. fit.own)
+          (λ before. absurd (omega (arith, before))) card_fit.keeps
+          (without_entries cards (given_spans ds) (entered_spans es) (blank_entered r.entries) card_fit.keeps) fit.count_is
+          (entry_count r.entries) (λ before. fit.same) (λ before. card_fit.same) (λ before. absurd (omega (arith, before)))
+          (λ before. absurd (omega (arith, before)))
 
-  pub entries_have : (ds : List Download) (cards : List Span) (es : List Entry) → DownloadsFit r.driver r.holder r.downloads (rows Downloads) ds
-      → CardsFit r.driver (rows CardSpans) ds cards → EntriesFit r.driver r.entries (rows EntryRows) ds es
-      → HasMember rows (pos r.driver) EntryRows
-  entries_have ds cards es fit card_fit entry_fit =
-      let line = kept_list (given_spans ds ++ entered_spans es) entry_fit.agrees in
-      built EntryRows ds es cards line.0 (own_read r.holder ds fit.own) (within_full es entry_fit.within) (λ before. fit.own)
-      (λ before. entry_fit.within) card_fit.keeps line.1 fit.count_is entry_fit.count_is (each line.0) where
-        each : (line : List Span) (j : TableName) → 1 ≤ place j → place j ≤ place EntryRows
-            → IsPermutation (member_rows j (member_of ds es cards line)) (rows j)
-        each line Drivers after before = absurd (omega (arith, after))
-        each line Downloads after before = fit.same
-        each line CardSpans after before = card_fit.same
-        each line EntryRows after before = entry_fit.same
-        each line Held after before = absurd (omega (arith, before))
+      module _ (es : List Entry) (entry_fit : EntriesFit r.driver r.entries (rows EntryRows) (given_spans ds) es) where
+        pub entries_have : HasMember rows (pos r.driver) EntryRows
+        entries_have =
+            let line = kept_list (given_spans ds ++ entered_spans es) entry_fit.agrees in
+            built EntryRows ds es cards line.0 (own_read r.holder ds fit.own) (within_full es entry_fit.within) (λ before. fit.own)
+            (λ before. entry_fit.within) card_fit.keeps line.1 fit.count_is entry_fit.count_is (λ before. fit.same)
+            (λ before. card_fit.same) (λ before. entry_fit.same) (λ before. absurd (omega (arith, before)))
 
-  pub held_has : (ds : List Download) (cards : List Span) (es : List Entry) (held : List Span)
-      → DownloadsFit r.driver r.holder r.downloads (rows Downloads) ds
-      → CardsFit r.driver (rows CardSpans) ds cards → EntriesFit r.driver r.entries (rows EntryRows) ds es
-      → HeldFits r.driver (rows Held) ds es held
-      → HasMember rows (pos r.driver) Held
-  held_has ds cards es held fit card_fit entry_fit held_fit =
-      built Held ds es cards held (own_read r.holder ds fit.own) (within_full es entry_fit.within) (λ before. fit.own)
-      (λ before. entry_fit.within) card_fit.keeps held_fit.keeps fit.count_is entry_fit.count_is each where
-        each : (j : TableName) → 1 ≤ place j → place j ≤ place Held → IsPermutation (member_rows j (member_of ds es cards held)) (rows j)
-        each Drivers after before = absurd (omega (arith, after))
-        each Downloads after before = fit.same
-        each CardSpans after before = card_fit.same
-        each EntryRows after before = entry_fit.same
-        each Held after before = held_fit.same
+        pub held_has : (held : List Span) → SpansFit r.driver (rows Held) (given_spans ds ++ entered_spans es) held
+            → HasMember rows (pos r.driver) Held
+        held_has held held_fit =
+            built Held ds es cards held (own_read r.holder ds fit.own) (within_full es entry_fit.within) (λ before. fit.own)
+            (λ before. entry_fit.within) card_fit.keeps held_fit.keeps fit.count_is entry_fit.count_is (λ before. fit.same)
+            (λ before. card_fit.same) (λ before. entry_fit.same) (λ before. held_fit.same)
 
   -- ---- rows of a member fit
 
@@ -232,15 +203,15 @@ module _ (rows : TableName → List Row) (r : DriverRow) (own : rows Drivers ≡
       agrees = kept_agrees it.member.cards (given_spans it.member.driver.downloads) it.whole.cards;
     }
 
-    pub fits_cards : place CardSpans ≤ place k → CardsFit r.driver (rows CardSpans) it.member.driver.downloads it.member.cards
+    pub fits_cards : place CardSpans ≤ place k → SpansFit r.driver (rows CardSpans) (given_spans it.member.driver.downloads) it.member.cards
     fits_cards before = record {
       same = subst (λ (i : ℕ). IsPermutation (map span_columns (map (span_row i) it.member.cards)) (rows CardSpans)) same_number
           (it.same CardSpans before);
       keeps = it.whole.cards;
     }
 
-    pub fits_entries : place EntryRows ≤ place k → EntriesFit r.driver r.entries
-        (rows EntryRows) it.member.driver.downloads it.member.driver.entries
+    pub fits_entries : place EntryRows ≤ place k → EntriesFit r.driver r.entries (rows EntryRows)
+        (given_spans it.member.driver.downloads) it.member.driver.entries
     fits_entries before = record {
       within = it.within.entries before;
       same = subst (λ (i : ℕ). IsPermutation (map entry_columns (rows_of_entries i 1 it.member.driver.entries)) (rows EntryRows))
@@ -249,7 +220,8 @@ module _ (rows : TableName → List Row) (r : DriverRow) (own : rows Drivers ≡
       agrees = kept_agrees it.member.held (given_spans it.member.driver.downloads ++ entered_spans it.member.driver.entries) it.whole.held;
     }
 
-    pub fits_held : place Held ≤ place k → HeldFits r.driver (rows Held) it.member.driver.downloads it.member.driver.entries it.member.held
+    pub fits_held : place Held ≤ place k → SpansFit r.driver (rows Held)
+        (given_spans it.member.driver.downloads ++ entered_spans it.member.driver.entries) it.member.held
     fits_held before = record {
       same = subst (λ (i : ℕ). IsPermutation (map span_columns (map (span_row i) it.member.held)) (rows Held)) same_number
           (it.same Held before);

@@ -75,11 +75,12 @@ still x y same is = record {
 }
 
 module _ {S : Type 0} {g : Ghosts S} {a b c : MutBor (Held S)} {A B E F : Type 0} {first : Layout → Trees → A → Type 0}
-    {second next : Layout → Trees → B → Type 0} where
-  pub then_learned : (x : A) → Learns g a b {A = A} {E = E} (Ok x) first → (r : Result B F) → Learns g b c r second
-      → ((layout : Layout) (db : Trees) → first layout db x → (y : B) → second layout db y → next layout db y) → Learns g a c r next
+    {second : Layout → Trees → B → Type 0} {x : A} where
+  -- what both have read
+  pub both : Learns g a b {A = A} {E = E} (Ok x) first → {r : Result B F} → Learns g b c r second
+      → Learns g a c r (λ layout db y. first layout db x × second layout db y)
   unfolding still
-  then_learned x p r q more =
+  both p {r} q =
       let same = λ (clean : HasCleanDisk (state g c.now)) (is : IsArchive (state g a.now).now). p.reads.same (q.reads.stays.clean clean) is in
       let there = λ (clean : HasCleanDisk (state g c.now)) (is : IsArchive (state g a.now).now).
       still (state g a.now) (state g b.now) (same clean is) is in
@@ -93,8 +94,8 @@ module _ {S : Type 0} {g : Ghosts S} {a b c : MutBor (Held S)} {A B E F : Type 0
         };
         found = λ clean is.
             let trees = ap (λ (d : Database). d.trees) (same clean is).0.now_is in
-            IfOk-weaker r _ _ (λ y h. more is.layout (state g a.now).now.trees (p.found (q.reads.stays.clean clean) is) y
-            (subst (λ (db : Trees). second is.layout db y) trees h)) (q.found clean (there clean is));
+            IfOk-weaker r _ _ (λ y h. (p.found (q.reads.stays.clean clean) is, subst (λ (db : Trees). second is.layout db y) trees h))
+            (q.found clean (there clean is));
       }
     where
       if_unchanged : (r : Result B F) → IsUnchanged (state g a.now) (state g b.now)

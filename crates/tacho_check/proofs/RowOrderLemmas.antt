@@ -11,7 +11,7 @@ use Rattle.sqlite_keyed.proofs.SortLemmas.{sorted_unique}
 use Rattle.sqlite_trees.specs.Tree.{IsAscending}
 use Rattle.sqlite_trees.proofs.ListLemmas.{pull_back}
 use Rattle.sqlite.specs.Order.{Row}
-use Rattle.tacho_check.specs.Typed.{NeverFall}
+use Rattle.tacho_check.specs.Parsed.{NeverFall}
 
 -- ---- the same stored rows
 

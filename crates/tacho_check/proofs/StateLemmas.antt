@@ -20,11 +20,12 @@ use Rattle.tacho_tables.specs.Readable.{is_number, is_own, own_rows, stored_rows
 use Rattle.tacho_tables.specs.Ask.{own_in}
 use Rattle.tacho_tables.proofs.UniqueLemmas.{HasDriver, downloads_have, card_spans_have, entries_have, held_have, holders_differ, keys_differ}
 use Rattle.tacho_reading.specs.Standing.{Represents, driver_columns}
-use Rattle.tacho_check.specs.Check.{place, IsSoundAt, IsWithinUpTo}
+use Rattle.tacho_check.specs.Check.{IsSoundAt, IsWithinUpTo}
 use Rattle.tacho_check.specs.Member.{Member, IsWhole, downloads_in, cards_in, entries_in, held_in, member_rows, state_of, tables_of, HasMember, IsOwnSound}
 use Rattle.tacho_check.proofs.KeepLemmas.{nil_of}
 use Rattle.tacho_check.proofs.MemberLemmas.{not_there, members_represent}
 use Rattle.tacho_check.proofs.OwnLemmas.{sound_own}
+use Rattle.tacho_check.proofs.AbsentLemmas.{before_last}
 use Rattle.tacho_check.proofs.SpreadLemmas.{has_unmapped, single, int_self, table_stands}
 
 -- ---- members that are distinct
@@ -87,14 +88,6 @@ distinct (m ∷ ms) once apart = (
   holders : (some : List Member) → ((x : Member) → Has some x → Has ms x) → IsHolderFree m.driver.holder (state_of some)
   holders [] within = tt
   holders (x ∷ some) within = ((λ e. (other x (within x (inl refl))).1 (sym e)), holders some (λ y later. within y (inr later)))
-
--- each table is `held` or before it
-before_last : (j : TableName) → place j ≤ place Held
-before_last Drivers = omega arith
-before_last Downloads = omega arith
-before_last CardSpans = omega arith
-before_last EntryRows = omega arith
-before_last Held = omega arith
 
 module _ (layout : Layout) (db : Trees) (it : IsReadable layout db) (sounds : (n : ℤ) → IsSoundAt layout db n Held) where
   own : (n : ℤ) → IsOwnSound (own_in layout db n) n Held

@@ -1,5 +1,5 @@
 -- The types of stored columns, by the rules of the schema.
-use Rattle.std.proofs.Common.{codes, ◌≡◌, ℕ, zero, suc, ◌+◌, ◌<◌, ◌≤◌, true, not, true≢false, List, [], ◌∷◌, Option, Some, drop, length, slice_get, refl, sym, arith}
+use Rattle.std.proofs.Common.{codes, ◌≡◌, ℕ, zero, suc, ◌+◌, ◌<◌, ◌≤◌, true, not, true≢false, List, [], ◌∷◌, Option, None, Some, drop, length, slice_get, refl, sym, ap, ◌∙◌, arith}
 use Rattle.std.specs.List.{AllByRecursion}
 use Rattle.std.proofs.lemmas.Bool.{and_parts}
 use Rattle.sqlite_value.specs.declared.value.Value.{Value}
@@ -17,7 +17,10 @@ use Rattle.sqlite_trees.specs.Tree.{Trees}
 use Rattle.tacho_tables.specs.Schema.{Layout, archive_schema, entry_tree}
 use Rattle.tacho_tables.specs.Schema as made
 use Rattle.tacho_tables.proofs.UniqueLemmas.{drivers_at, downloads_at, card_spans_at, held_at, entry_place, entries_at}
-use Rattle.tacho_check.proofs.ReadLemmas.{HasTypes}
+
+-- the stored columns of a table have the types of its schema
+abbrev pub HasTypes : List Column → List Row → Type 0
+HasTypes columns rows = (r : Row) → Has rows r → are_typed None 0 columns (drop 1 r) ≡ true
 
 module _ (layout : Layout) (db : Trees) (sound : IsSound (archive_schema layout) db) (at : ℕ) (table : Table)
     (is : slice_get (archive_schema layout).tables at ≡ Some table) (r : Row) (has : Has (db table.tree) r) where
@@ -67,6 +70,24 @@ pub long_enough : (w : Row) (k : ℕ) → not (is_null (column w k)) ≡ true �
 long_enough [] k some = absurd (true≢false (sym some))
 long_enough (v ∷ w) zero some = omega arith
 long_enough (v ∷ w) (suc k) some = let more = long_enough w k some in omega (arith, more)
+
+-- a row is the list of its columns
+abbrev pub listed : ℕ → (ℕ → Value) → Row
+listed zero at = []
+listed (suc n) at = at 0 ∷ listed n (λ k. at (suc k))
+
+all_columns : (w : Row) → w ≡ listed (length w) (column w)
+all_columns [] = refl
+all_columns (v ∷ w) = ap (λ vs. v ∷ vs) (all_columns w)
+
+-- so it is where it has the types of its table, and its last column isn't NULL
+pub whole_row : (key : Option ℕ) (cs : List Column) (w : Row) (n : ℕ) → are_typed key 0 cs w ≡ true → length cs ≡ suc n
+    → not (is_null (column w n)) ≡ true → w ≡ listed (suc n) (column w)
+whole_row key cs w n typed many some =
+    let short = typed_length key 0 cs w typed in
+    let long = long_enough w n some in
+    let is : length w ≡ suc n = omega (arith, many, short, long) in
+    all_columns w ∙ ap (λ k. listed k (column w)) is
 
 pub null_of : (v : Value) → is_null v ≡ true → v ≡ Null
 null_of Null is = refl

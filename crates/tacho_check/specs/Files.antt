@@ -1,5 +1,5 @@
 -- Private to tacho_check: Stored card files, and what they give.
-use Rattle.std.specs.Prelude.{◌≡◌, ◌≢◌, ℕ, ◌+◌, List, [], ◌∷◌, ◌++◌, Option, None, Some, Ok, Vec}
+use Rattle.std.specs.Prelude.{◌≡◌, ◌≢◌, ℕ, List, [], ◌∷◌, ◌++◌, Option, None, Some, Ok, Vec}
 use Rattle.std.specs.declared.alloc.Global.{Global}
 use Rattle.tacho_time.specs.declared.span.Span.{Span}
 use Rattle.tacho_card.specs.declared.file.Part.{Part}
@@ -41,8 +41,3 @@ Give holder (r ∷ rows) all =
 abbrev pub IsGivenBy : List ℕ → List FileRow → Option (Vec Span Global) → Type 0
 IsGivenBy holder rows None = (all : List Span) → ¬ (Give holder rows all)
 IsGivenBy holder rows (Some given) = Give holder rows given.items
-
--- the rows are numbered from i on
-abbrev pub AreNumberedFrom : ℕ → List FileRow → Type 0
-AreNumberedFrom i [] = Unit {0}
-AreNumberedFrom i (r ∷ rows) = (r.number ≡ i) × AreNumberedFrom (i + 1) rows

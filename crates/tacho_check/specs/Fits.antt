@@ -21,19 +21,14 @@ pub record DownloadsFit (n : ℕ) (holder : List ℕ) (count : ℕ) (rows : List
   pub count_is : length ds ≡ count
   pub agrees : Agrees (given_spans ds)
 
--- the spans have these rows, and keep what the downloads give
-pub record CardsFit (n : ℕ) (rows : List Row) (ds : List Download) (cards : List Span) : Type 0 where
-  pub same : IsPermutation (map span_columns (map (span_row n) cards)) rows
-  pub keeps : Keeps cards (Gives (given_spans ds))
-
--- the entries have these rows: as many as the driver's row counts, each within its limits, and without a contradiction
-pub record EntriesFit (n : ℕ) (count : ℕ) (rows : List Row) (ds : List Download) (es : List Entry) : Type 0 where
+-- the entries have these rows: as many as the driver's row counts, each within its limits, and without a contradiction to what is given
+pub record EntriesFit (n : ℕ) (count : ℕ) (rows : List Row) (given : List Span) (es : List Entry) : Type 0 where
   pub within : AllByRecursion IsEntry es
   pub same : IsPermutation (map entry_columns (rows_of_entries n 1 es)) rows
   pub count_is : length es ≡ count
-  pub agrees : Agrees (given_spans ds ++ entered_spans es)
+  pub agrees : Agrees (given ++ entered_spans es)
 
--- the spans have these rows, and keep what the driver holds
-pub record HeldFits (n : ℕ) (rows : List Row) (ds : List Download) (es : List Entry) (held : List Span) : Type 0 where
-  pub same : IsPermutation (map span_columns (map (span_row n) held)) rows
-  pub keeps : Keeps held (Gives (given_spans ds ++ entered_spans es))
+-- the spans have these rows, and keep what is given
+pub record SpansFit (n : ℕ) (rows : List Row) (given : List Span) (spans : List Span) : Type 0 where
+  pub same : IsPermutation (map span_columns (map (span_row n) spans)) rows
+  pub keeps : Keeps spans (Gives given)

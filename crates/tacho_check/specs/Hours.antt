@@ -1,12 +1,11 @@
 -- Private to tacho_check: Stored entries, without their authors and notes.
-use Rattle.std.specs.Prelude.{◌≡◌, ℕ, ◌+◌, false, List, [], ◌∷◌, ◌++◌, if◌then◌else◌}
+use Rattle.std.specs.Prelude.{ℕ, ◌+◌, ◌<◌, ◌≤◌, false, List, [], ◌∷◌, ◌++◌, if◌then◌else◌}
 use Rattle.tacho_time.specs.declared.span.Span.{Span}
 use Rattle.tacho_check.specs.declared.hours.HoursRow.{HoursRow}
 
--- the rows are numbered from i on
-abbrev pub AreInOrder : ℕ → List HoursRow → Type 0
-AreInOrder i [] = Unit {0}
-AreInOrder i (r ∷ rows) = (r.number ≡ i) × AreInOrder (i + 1) rows
+-- minutes of an entry: they lie within 2000-01-03 to the end of 2099, and are at least one and at most 366 days
+abbrev pub HasHours : ℕ → ℕ → Type 0
+HasHours start past = (15780960 ≤ start) × (start < past) × (past ≤ start + 527040) × (past ≤ 68374080)
 
 -- the span of a row: the driver is alone
 abbrev pub hours_span : HoursRow → Span

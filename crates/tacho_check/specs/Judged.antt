@@ -1,165 +1,70 @@
--- Private to tacho_check: The judgement of a driver who has a row in `drivers`.
-use Rattle.std.specs.Prelude.{◌≡◌, ◌≢◌, ℕ, ℤ, ◌<◌, Bool, true, false, List, [], ◌∷◌, ◌++◌, map, length, Option, None, Some, Vec, IsPermutation, if◌then◌else◌}
+-- Private to tacho_check: The judgement of a driver's rows.
+use Rattle.std.specs.Prelude.{◌≡◌, ℕ, ℤ, ◌<◌, List, [], ◌∷◌, ◌++◌, Option, None, Some, Vec}
 use Rattle.std.specs.List.{AllByRecursion}
 use Rattle.std.specs.declared.alloc.Global.{Global}
 use Rattle.sqlite.specs.Order.{Row}
 use Rattle.tacho_time.specs.declared.span.Span.{Span}
-use Rattle.tacho_time.specs.Spans.{Gives}
-use Rattle.tacho_state.specs.State.{Download, Entry}
-use Rattle.tacho_state.specs.Disjoint.{Keeps}
-use Rattle.tacho_state.specs.Within.{IsEntry}
-use Rattle.tacho_tables.specs.Rows.{DriverRow, driver_row, span_columns, download_columns, entry_columns}
-use Rattle.tacho_tables.specs.Ask.{three_shown, seven_shown, driver_values}
+use Rattle.tacho_state.specs.State.{Download, Entry, given_spans, entered_spans}
+use Rattle.tacho_tables.specs.Rows.{DriverRow, driver_row}
+use Rattle.tacho_tables.specs.Schema as made
+use Rattle.tacho_tables.specs.Ask.{three_shown, seven_shown}
 use Rattle.tacho_tables.specs.declared.table.TableName.{TableName}
 use Rattle.tacho_tables.specs.declared.table.TableName.TheVariants.{Drivers, Downloads, CardSpans, EntryRows, Held}
-use Rattle.tacho_reading.specs.Standing.{rows_of_downloads, rows_of_entries, span_row}
 use Rattle.tacho_check.specs.declared.files.FileRow.{FileRow}
-use Rattle.tacho_check.specs.declared.hours.HoursRow.{HoursRow}
+use Rattle.tacho_check.specs.declared.own.OwnRows.{OwnRows}
 use Rattle.tacho_check.specs.declared.registered.Basis.{Basis}
 use Rattle.tacho_check.specs.Check.{place}
+use Rattle.tacho_check.specs.Files.{Give}
+use Rattle.tacho_check.specs.Fits.{Agrees, DownloadsFit, EntriesFit, SpansFit}
 use Rattle.tacho_check.specs.Member.{IsOwnSound}
-use Rattle.tacho_check.specs.Parsed.{IsInCalendar}
-use Rattle.tacho_check.specs.Registered.{HasOwnColumns, HasBasis}
-use Rattle.tacho_check.specs.Hours.{AreInOrder, entered_hours}
-use Rattle.tacho_check.specs.Files.{Give, AreNumberedFrom}
-use Rattle.tacho_check.specs.Typed.{NeverFall, AreFiles, AreHours, AreSpans}
-use Rattle.tacho_check.specs.Fits.{Agrees}
+use Rattle.tacho_check.specs.Registered.{HasOwnColumns, IsBasis}
+use Rattle.tacho_check.specs.Typed.{AreShown, IsInCalendar}
 
--- ---- rows that were read: as typed rows, or not as such rows
+-- ---- spans that agree
 
-abbrev pub AreFilesRead : ℕ → List Row → Option (Vec FileRow Global) → Type 0
-AreFilesRead n rows None = (ds : List Download) → ¬ (IsPermutation (map download_columns (rows_of_downloads n 1 ds)) rows)
-AreFilesRead n rows (Some files) = AreFiles n rows files.items × NeverFall 0 (map (λ (f : FileRow). f.number) files.items)
-
-abbrev pub AreSpansRead : ℕ → List Row → Option (Vec Span Global) → Type 0
-AreSpansRead n rows None = (spans : List Span) → AllByRecursion IsInCalendar spans → ¬ (IsPermutation (map span_columns (map (span_row n) spans)) rows)
-AreSpansRead n rows (Some spans) = AreSpans n rows spans.items
-
-abbrev pub AreHoursRead : ℕ → List Row → Option (Vec HoursRow Global) → Type 0
-AreHoursRead n rows None = (es : List Entry) → AllByRecursion IsEntry es → ¬ (IsPermutation (map entry_columns (rows_of_entries n 1 es)) rows)
-AreHoursRead n rows (Some hours) = AreHours n rows hours.items × NeverFall 0 (map (λ (h : HoursRow). h.number) hours.items)
-
--- all rows of a driver were read
-pub record IsReadDriver (rows : TableName → List Row) (r : DriverRow) (basis : Basis) (files : Option (Vec FileRow Global))
-    (cards : Option (Vec Span Global)) (hours : Option (Vec HoursRow Global)) (held : Option (Vec Span Global)) : Type 0 where
-  pub own : rows Drivers ≡ driver_row r ∷ []
-  pub columns : HasOwnColumns r
-  pub judged_by : HasBasis r basis
-  pub files_read : AreFilesRead r.driver (rows Downloads) files
-  pub cards_read : AreSpansRead r.driver (rows CardSpans) cards
-  pub hours_read : AreHoursRead r.driver (rows EntryRows) hours
-  pub held_read : AreSpansRead r.driver (rows Held) held
-
--- ---- what typed rows have to be
-
--- the files are numbered, as many as are counted, of the holder's card, and give these spans, which agree
-abbrev pub RightList : List ℕ → ℕ → List FileRow → List Span → Type 0
-RightList holder count files all = AreNumberedFrom 1 files × (length files ≡ count) × Give holder files all × Agrees all
-
-abbrev pub RightFiles : List ℕ → ℕ → Option (Vec FileRow Global) → List Span → Type 0
-RightFiles holder count None all = ⊥
-RightFiles holder count (Some files) all = RightList holder count files.items all
-
--- the spans keep what others give
-abbrev pub RightSpans : Option (Vec Span Global) → List Span → Type 0
-RightSpans None all = ⊥
-RightSpans (Some spans) all = Keeps spans.items (Gives all)
-
--- what downloads and entries give
-abbrev pub with_hours : Option (Vec HoursRow Global) → List Span → List Span
-with_hours None all = all
-with_hours (Some hours) all = all ++ entered_hours hours.items
-
--- the entries are in order, as many as are counted, and agree with the downloads
-abbrev pub RightHoursList : ℕ → List HoursRow → List Span → Type 0
-RightHoursList count hours all = AreInOrder 1 hours × (length hours ≡ count) × Agrees (all ++ entered_hours hours)
-
-abbrev pub RightHours : ℕ → Option (Vec HoursRow Global) → List Span → Type 0
-RightHours count None all = ⊥
-RightHours count (Some hours) all = RightHoursList count hours.items all
-
--- as many files as are counted, numbered from 1 on; as many entries, in order
-abbrev pub AreCounted : ℕ → List FileRow → Type 0
-AreCounted count files = (length files ≡ count) × AreNumberedFrom 1 files
-
-abbrev pub AreWhole : ℕ → List HoursRow → Type 0
-AreWhole count hours = (length hours ≡ count) × AreInOrder 1 hours
-
--- ---- answers
-
-abbrev pub is_list : Option (Vec Span Global) → Bool
-is_list None = false
-is_list (Some list) = true
-
--- what files give together, if that agrees
-abbrev pub AreAgreedFiles : List ℕ → List FileRow → Option (Vec Span Global) → Type 0
-AreAgreedFiles holder files None = (all : List Span) → Give holder files all → ¬ (Agrees all)
-AreAgreedFiles holder files (Some given) = Give holder files given.items × Agrees given.items
-
--- spans that agree, or none
+-- these spans, if they agree
 abbrev pub IsAgreed : List Span → Option (Vec Span Global) → Type 0
 IsAgreed spans None = ¬ (Agrees spans)
 IsAgreed spans (Some same) = Agrees spans × (same.items ≡ spans)
 
--- what the files give, if they are right
-abbrev pub IsRightList : List ℕ → ℕ → List FileRow → Option (Vec Span Global) → Type 0
-IsRightList holder count files None = (all : List Span) → ¬ (RightList holder count files all)
-IsRightList holder count files (Some given) = RightList holder count files given.items
+-- what files give together, if that agrees
+abbrev pub AreAgreed : List ℕ → List FileRow → Option (Vec Span Global) → Type 0
+AreAgreed holder files None = (all : List Span) → Give holder files all → ¬ (Agrees all)
+AreAgreed holder files (Some given) = Give holder files given.items × Agrees given.items
 
-abbrev pub AreRightFiles : List ℕ → ℕ → Option (Vec FileRow Global) → Option (Vec Span Global) → Type 0
-AreRightFiles holder count files None = (all : List Span) → ¬ (RightFiles holder count files all)
-AreRightFiles holder count files (Some given) = RightFiles holder count files given.items
+-- ---- each table
 
--- what downloads and entries give, if the entries are right
-abbrev pub IsRightHoursList : ℕ → List HoursRow → List Span → Option (Vec Span Global) → Type 0
-IsRightHoursList count hours given None = ¬ (RightHoursList count hours given)
-IsRightHoursList count hours given (Some all) =
-    RightHoursList count hours given × (all.items ≡ given ++ entered_hours hours)
+-- what the downloads that have these rows give, if there are such
+abbrev pub AreDownloads : ℕ → List ℕ → ℕ → List Row → Option (Vec Span Global) → Type 0
+AreDownloads n holder count rows None = (ds : List Download) → ¬ (DownloadsFit n holder count rows ds)
+AreDownloads n holder count rows (Some given) =
+    ((ds : List Download) × DownloadsFit n holder count rows ds)
+    × ((ds : List Download) → DownloadsFit n holder count rows ds → given_spans ds ≡ given.items)
 
-abbrev pub AreRightHours : ℕ → Option (Vec HoursRow Global) → List Span → Option (Vec Span Global) → Type 0
-AreRightHours count hours given None = ¬ (RightHours count hours given)
-AreRightHours count hours given (Some all) = RightHours count hours given
-    × (all.items ≡ with_hours hours given)
+-- what downloads and the entries that have these rows give, if there are such
+abbrev pub AreEntries : ℕ → ℕ → List Row → List Span → Option (Vec Span Global) → Type 0
+AreEntries n count rows given None = (es : List Entry) → ¬ (EntriesFit n count rows given es)
+AreEntries n count rows given (Some all) =
+    ((es : List Entry) × EntriesFit n count rows given es)
+    × ((es : List Entry) → EntriesFit n count rows given es → given ++ entered_spans es ≡ all.items)
 
--- the first table whose rows aren't right
-abbrev pub IsFirstWrong : Basis → Option (Vec FileRow Global) → Option (Vec Span Global) → Option (Vec HoursRow Global)
-    → Option (Vec Span Global)
-    → Option TableName → Type 0
-IsFirstWrong basis files cards hours held None =
-    (all : List Span) × RightFiles basis.holder basis.downloads files all × RightSpans cards all × RightHours basis.entries hours all
-    × RightSpans held (with_hours hours all)
-IsFirstWrong basis files cards hours held (Some Drivers) = ⊥
-IsFirstWrong basis files cards hours held (Some Downloads) = (all : List Span) → ¬ (RightFiles basis.holder basis.downloads files all)
-IsFirstWrong basis files cards hours held (Some CardSpans) =
-    (all : List Span) × RightFiles basis.holder basis.downloads files all × (¬ (RightSpans cards all))
-IsFirstWrong basis files cards hours held (Some EntryRows) =
-    (all : List Span) × RightFiles basis.holder basis.downloads files all × RightSpans cards all × (¬ (RightHours basis.entries hours all))
-IsFirstWrong basis files cards hours held (Some Held) =
-    (all : List Span) × RightFiles basis.holder basis.downloads files all × RightSpans cards all × RightHours basis.entries hours all
-    × (¬ (RightSpans held (with_hours hours all)))
+-- spans of the calendar have these rows, and keep what is given
+abbrev pub AreKept : ℕ → List Row → List Span → Type 0
+AreKept n rows given = (spans : List Span) × AllByRecursion IsInCalendar spans × SpansFit n rows given spans
+
+-- ---- the driver
 
 -- the first table at which the driver's rows aren't sound, or none
 abbrev pub IsJudged : (TableName → List Row) → ℤ → Option TableName → Type 0
 IsJudged rows n None = IsOwnSound rows n Held
 IsJudged rows n (Some k) = (¬ (IsOwnSound rows n k)) × ((j : TableName) → place j < place k → IsOwnSound rows n j)
 
--- ---- a driver without a row in `drivers`
-
--- what is shown of a row of a table
-abbrev pub shown_of : TableName → Row → Row
-shown_of Drivers = driver_values
-shown_of Downloads = three_shown
-shown_of CardSpans = three_shown
-shown_of EntryRows = seven_shown
-shown_of Held = three_shown
-
--- whether a table has rows of the driver
-abbrev pub HasRows : (TableName → List Row) → TableName → Bool → Type 0
-HasRows rows k true = rows k ≢ []
-HasRows rows k false = rows k ≡ []
-
--- the first table after `drivers` that has rows
-abbrev pub first_present : Bool → Bool → Bool → Bool → Option TableName
-first_present downloads cards entries held =
-    if downloads then Some Downloads else
-    (if cards then Some CardSpans else (if entries then Some EntryRows else (if held then Some Held else None)))
+-- the driver has this row in `drivers`, and these rows that were read in the other tables
+pub record IsReadDriver (rows : TableName → List Row) (r : DriverRow) (basis : Basis) (found : OwnRows) : Type 0 where
+  pub own : rows Drivers ≡ driver_row r ∷ []
+  pub columns : HasOwnColumns r
+  pub judged_by : IsBasis basis r
+  pub downloads : AreShown r.driver made.downloads.columns three_shown (rows Downloads) found.downloads.items
+  pub card_spans : AreShown r.driver (made.spans []).columns three_shown (rows CardSpans) found.card_spans.items
+  pub entries : AreShown r.driver made.entry_rows.columns seven_shown (rows EntryRows) found.entry_rows.items
+  pub held : AreShown r.driver (made.spans []).columns three_shown (rows Held) found.held.items

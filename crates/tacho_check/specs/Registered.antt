@@ -1,13 +1,11 @@
 -- Private to tacho_check: A driver's row in `drivers`, as it is read.
-use Rattle.std.specs.Prelude.{◌≡◌, ◌≢◌, List, [], ◌∷◌, Option, None, Some}
-use Rattle.sqlite.specs.Order.{Row}
+use Rattle.std.specs.Prelude.{◌≡◌, pos}
+use Rattle.sqlite.specs.declared.types.Value.TheVariants.{Int, Text, Blob}
+use Rattle.sqlite.specs.Order.{Row, column}
 use Rattle.tacho_state.specs.Registration.{Registration}
 use Rattle.tacho_state.specs.Within.{AreColumns}
-use Rattle.tacho_tables.specs.Ask.{driver_values}
-use Rattle.tacho_tables.specs.Rows.{DriverRow, driver_row}
+use Rattle.tacho_tables.specs.Rows.{DriverRow}
 use Rattle.tacho_check.specs.declared.registered.Basis.{Basis}
-use Rattle.tacho_check.specs.declared.registered.Registered.{Registered}
-use Rattle.tacho_check.specs.declared.registered.Registered.TheVariants.{No, Unfit, Fit}
 
 -- the registration of a row
 abbrev pub registration_in : DriverRow → Registration
@@ -17,29 +15,19 @@ registration_in r = record { number = r.driver; holder = r.holder; key = r.secre
 abbrev pub HasOwnColumns : DriverRow → Type 0
 HasOwnColumns r = AreColumns (registration_in r) r.downloads r.entries
 
+-- the row shows a driver within their limits
+pub record ShowsDriver (row : Row) (r : DriverRow) : Type 0 where
+  pub number : column row 0 ≡ Int (pos r.driver)
+  pub holder : column row 1 ≡ Blob r.holder
+  pub secret : column row 2 ≡ Text r.secret
+  pub base : column row 3 ≡ Int (pos r.base)
+  pub name : column row 4 ≡ Text r.name
+  pub downloads : column row 5 ≡ Int (pos r.downloads)
+  pub entries : column row 6 ≡ Int (pos r.entries)
+  pub within : HasOwnColumns r
+
 -- what the driver's other rows are judged by is this
-pub record HasBasis (r : DriverRow) (b : Basis) : Type 0 where
-  pub holder : r.holder ≡ b.holder
-  pub downloads : r.downloads ≡ b.downloads
-  pub entries : r.entries ≡ b.entries
-
--- what is shown of a driver's row
-abbrev pub driver_shown : DriverRow → Row
-driver_shown r = driver_values (driver_row r)
-
--- a row that shows a driver within their limits, or one that shows none
-abbrev pub IsBasisOf : Row → Option Basis → Type 0
-IsBasisOf row None = (r : DriverRow) → HasOwnColumns r → row ≢ driver_shown r
-IsBasisOf row (Some b) = (r : DriverRow) × HasOwnColumns r × HasBasis r b × (row ≡ driver_shown r)
-
--- what a driver's rows show: there is none, there are others than one of a driver within their limits, or one
-abbrev pub IsShownDriver : List Row → Registered → Type 0
-IsShownDriver rows No = rows ≡ []
-IsShownDriver rows Unfit = (rows ≢ []) × ((r : DriverRow) → HasOwnColumns r → rows ≢ driver_shown r ∷ [])
-IsShownDriver rows (Fit b) = (r : DriverRow) × HasOwnColumns r × HasBasis r b × (rows ≡ driver_shown r ∷ [])
-
--- likewise for the stored rows
-abbrev pub IsRegistered : List Row → Registered → Type 0
-IsRegistered rows No = rows ≡ []
-IsRegistered rows Unfit = (rows ≢ []) × ((r : DriverRow) → HasOwnColumns r → rows ≢ driver_row r ∷ [])
-IsRegistered rows (Fit b) = (r : DriverRow) × HasOwnColumns r × HasBasis r b × (rows ≡ driver_row r ∷ [])
+pub record IsBasis (b : Basis) (r : DriverRow) : Type 0 where
+  pub holder : b.holder ≡ r.holder
+  pub downloads : b.downloads ≡ r.downloads
+  pub entries : b.entries ≡ r.entries

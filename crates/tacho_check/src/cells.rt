@@ -1,6 +1,6 @@
 //! The columns of a row that was read.
 
-ghost use Rattle.std.specs.Prelude.{◌≡◌, ◌≢◌, ◌<◌, ℕ, List, IsUtf8, MatchOption};
+ghost use Rattle.std.specs.Prelude.{◌≡◌, ◌≢◌, ◌<◌, ◌≤◌, ℕ, List, IsUtf8, MatchOption};
 ghost use Rattle.sqlite.specs.declared.types.Value.TheVariants.{Text, Blob};
 ghost use Rattle.sqlite.specs.Order.{column};
 ghost use Rattle.sqlite_value.specs.Value.{owned};
@@ -44,7 +44,7 @@ pub(crate) fn number_at(row: &Row, at: usize) -> Option<u64>
 
 /// Returns the minute with a number, if there is one.
 fn minute_of(number: u64) -> Option<Minute>
-    ensures { MatchOption result (greatest_minute < number) (λ minute. minute ≡ number) }
+    ensures { MatchOption result (greatest_minute < number) (λ minute. (minute ≡ number) × (number ≤ greatest_minute)) }
 {
     let Ok(number) = u32::try_from(number) else {
         return None;
@@ -56,7 +56,6 @@ fn minute_of(number: u64) -> Option<Minute>
 }
 
 /// Returns the minute in a column.
-#[tactic(auto, using(crate::proofs::CellLemmas::no_number, crate::proofs::CellLemmas::too_late))]
 pub(crate) fn minute_at(row: &Row, at: usize) -> Option<Minute>
     ensures { IsMinuteOf (column row.now at) result }
 {

@@ -11,7 +11,7 @@ ghost use Rattle.tacho_reading.specs.Kept.{HasGivenUp};
 ghost use Rattle.tacho_check.specs.Checked.{IsChecked, Checks};
 
 use crate::current::ask_current;
-use crate::judging::judge_driver;
+use crate::judgement::judge_driver;
 use crate::numbers::driver_numbers;
 use crate::table::Unsound;
 use sqlite::{Alter, Connection, Transaction};

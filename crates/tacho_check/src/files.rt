@@ -1,11 +1,17 @@
 //! A driver's stored card files, which are read again.
 
-ghost use Rattle.std.specs.Prelude.{◌≡◌, ◌≢◌, ◌↔◌, ◌++◌, None, IfOk, OnOk, IsTrue, IfSome, IsNone};
-ghost use Rattle.tacho_check.specs.Files.{IsOwnContent, IsContentOf, IsReadingOf, IsGivenBy, AreNumberedFrom};
+ghost use Rattle.std.specs.Prelude.{◌≡◌, ◌≢◌, ◌++◌, None, IfOk, OnOk};
+ghost use Rattle.tacho_check.specs.Files.{IsOwnContent, IsContentOf, IsReadingOf, IsGivenBy};
+ghost use Rattle.tacho_check.specs.Parsed.{IsParsed};
+ghost use Rattle.tacho_check.specs.Typed.{ShowsFile, IsFile};
 
-use std::alloc::{AllocError, Global};
+use crate::cells::{bytes_at, number_at};
+use crate::parsing::{FromRow, Numbered};
+use sqlite::Row;
+use std::alloc::Global;
 use tacho_card::Part;
 use tacho_state::{CardContent, StoreFault, content_of, part_of};
+use tacho_tables::TableFault;
 use tacho_time::Span;
 
 /// A stored card file: its number among the driver's downloads, the number of the part that was read, and its bytes.
@@ -16,12 +22,40 @@ pub struct FileRow {
     pub file: Vec<u8>,
 }
 
+impl FromRow for FileRow {
+    ghost is_of = { IsParsed ShowsFile IsFile };
+
+    fn from_row(alloc: Global, row: &Row) -> Result<Option<FileRow>, TableFault> {
+        let Some(number) = number_at(row, 0) else {
+            return Ok(None);
+        };
+        let Some(part) = number_at(row, 1) else {
+            return Ok(None);
+        };
+        let Some(bytes) = bytes_at(row, 2) else {
+            return Ok(None);
+        };
+        let Ok(file) = Vec::from_slice(alloc, bytes) else {
+            return Err(TableFault::Memory);
+        };
+        Ok(Some(FileRow { number, part, file }))
+    }
+}
+
+impl Numbered for FileRow {
+    ghost number_of = { λ f. f.number };
+
+    fn number(&self) -> u64 {
+        self.number
+    }
+}
+
 /// Returns no spans for a fault of a card file; out of memory stays.
-fn refused(fault: &StoreFault) -> Result<Option<Vec<Span>>, AllocError>
+fn refused(fault: &StoreFault) -> Result<Option<Vec<Span>>, TableFault>
     ensures { IfOk result (λ found. (found ≡ None) × (fault.now ≢ StoreFault.Memory)) }
 {
     match fault {
-        StoreFault::Memory => Err(AllocError),
+        StoreFault::Memory => Err(TableFault::Memory),
         _ => Ok(None),
     }
 }
@@ -43,7 +77,7 @@ fn content(
     holder: &[u8],
     part: Part,
     file: &[u8],
-) -> Result<Option<Vec<Span>>, AllocError>
+) -> Result<Option<Vec<Span>>, TableFault>
     ensures { IfOk result (IsContentOf holder.now part file.now) }
 {
     match content_of(alloc, part, file) {
@@ -53,7 +87,7 @@ fn content(
 }
 
 /// Reads a stored card file of a holder again; none if no archive keeps such a file.
-fn reading(alloc: Global, holder: &[u8], row: &FileRow) -> Result<Option<Vec<Span>>, AllocError>
+fn reading(alloc: Global, holder: &[u8], row: &FileRow) -> Result<Option<Vec<Span>>, TableFault>
     ensures { IfOk result (IsReadingOf holder.now row.now) }
 {
     let Some(part) = part_of(row.part) else {
@@ -63,27 +97,13 @@ fn reading(alloc: Global, holder: &[u8], row: &FileRow) -> Result<Option<Vec<Spa
 }
 
 /// Appends spans.
-fn append(given: &mut Vec<Span>, spans: &[Span]) -> Result<(), AllocError>
+fn append(given: &mut Vec<Span>, spans: &[Span]) -> Result<(), TableFault>
     ensures { OnOk result (given.new.items ≡ given.old.items ++ spans.now) }
 {
-    for span in spans {
-        given.push(*span)?;
+    match given.extend_from_slice(spans) {
+        Ok(()) => Ok(()),
+        Err(_) => Err(TableFault::Memory),
     }
-    Ok(())
-}
-
-/// Returns true if the rows are numbered from 1 on.
-pub fn are_numbered(rows: &[FileRow]) -> bool
-    ensures { IsTrue result ↔ AreNumberedFrom 1 rows.now }
-{
-    let mut number = 1u64;
-    for row in rows {
-        if row.number != number {
-            return false;
-        }
-        number = number.saturating_add(1);
-    }
-    true
 }
 
 /// Returns what stored card files of a holder give together, one after the other; none if no archive keeps one of them.
@@ -92,7 +112,7 @@ pub fn given_by(
     alloc: Global,
     holder: &[u8],
     rows: &[FileRow],
-) -> Result<Option<Vec<Span>>, AllocError>
+) -> Result<Option<Vec<Span>>, TableFault>
     ensures { IfOk result (IsGivenBy holder.now rows.now) }
 {
     let mut given = Vec::new(alloc);

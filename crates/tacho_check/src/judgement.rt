@@ -1,55 +1,37 @@
 //! The judgement of one driver, from their stored rows as they were read.
 
-ghost use Rattle.std.specs.Prelude.{◌≡◌, ◌↔◌, ◌++◌, ℤ, pos, List, [], IfOk, OnOk, IsTrue};
-ghost use Rattle.sqlite.specs.Order.{Row};
+ghost use Rattle.std.specs.Prelude.{◌≡◌, ◌↔◌, ℕ, ℤ, pos, List, [], IfOk, IsTrue};
+ghost use Rattle.sqlite.specs.Order.{Row as Values};
+ghost use Rattle.sqlite.specs.Tree.{Trees};
+ghost use Rattle.tacho_tables.specs.Ask.{Asks, own_in, three_shown, seven_shown};
+ghost use Rattle.tacho_tables.specs.Readable.{IsReadable};
 ghost use Rattle.tacho_tables.specs.Rows.{DriverRow};
+ghost use Rattle.tacho_tables.specs.Schema.{Layout, downloads as download_table, spans as span_table, entry_rows as entry_table};
 ghost use Rattle.tacho_tables.specs.declared.table.TableName.{TableName as Name};
-ghost use Rattle.tacho_check.specs.Fits.{Agrees};
-ghost use Rattle.tacho_check.specs.Hours.{entered_hours};
-ghost use Rattle.tacho_check.specs.Judged.{RightSpans, AreCounted, AreWhole, is_list, IsAgreed, AreAgreedFiles, IsRightList, AreRightFiles, IsRightHoursList, AreRightHours, IsFirstWrong, IsReadDriver, IsJudged, HasRows, first_present};
+ghost use Rattle.tacho_check.specs.Judged.{IsAgreed, AreAgreed, AreDownloads, AreEntries, AreKept, IsReadDriver, IsJudged};
+ghost use Rattle.tacho_check.specs.Own.{AreOwnRows};
+ghost use Rattle.tacho_check.specs.Typed.{AreShown};
 
-use crate::files::{FileRow, are_numbered, given_by};
-use crate::hours::{HoursRow, are_in_order, entered};
+use crate::files::{FileRow, given_by};
+use crate::hours::{HoursRow, enter};
 use crate::keeping::{canonical, keeps};
-use crate::registered::Basis;
-use std::alloc::{AllocError, Global};
-use tacho_tables::TableName;
+use crate::own::{OwnRows, read_own};
+use crate::parsing::{counted, parsed};
+use crate::registered::{Basis, basis_of};
+use sqlite::{Alter, Row, Transaction};
+use std::alloc::Global;
+use tacho_tables::{TableFault, TableName};
 use tacho_time::Span;
 
-/// Returns true if there is a list.
-fn is_there(list: &Option<Vec<Span>>) -> bool
-    ensures { result ≡ is_list list.now }
-{
-    match list {
-        Some(_) => true,
-        None => false,
-    }
-}
-
-/// Returns true if the spans give no minute two marks.
-fn agrees(alloc: Global, spans: &[Span]) -> Result<bool, AllocError>
-    ensures { IfOk result (λ agreed. IsTrue agreed ↔ Agrees spans.now) }
-{
-    let list = canonical(alloc, spans)?;
-    Ok(is_there(&list))
-}
-
 /// Returns the spans, if they give no minute two marks.
-fn agreed(alloc: Global, spans: Vec<Span>) -> Result<Option<Vec<Span>>, AllocError>
+fn agreed(alloc: Global, spans: Vec<Span>) -> Result<Option<Vec<Span>>, TableFault>
     ensures { IfOk result (IsAgreed spans.items) }
 {
-    if agrees(alloc, &spans)? {
-        Ok(Some(spans))
-    } else {
-        Ok(None)
+    let list = canonical(alloc, &spans)?;
+    match list {
+        Some(_) => Ok(Some(spans)),
+        None => Ok(None),
     }
-}
-
-/// Returns true if there are as many card files as are counted, numbered from 1 on.
-fn are_counted(count: u64, files: &[FileRow]) -> bool
-    ensures { IsTrue result ↔ AreCounted count files.now }
-{
-    files.len() as u64 == count && are_numbered(files)
 }
 
 /// Returns what card files of a holder give together, if they give no minute two marks.
@@ -58,8 +40,8 @@ fn agreed_files(
     alloc: Global,
     holder: &[u8],
     files: &[FileRow],
-) -> Result<Option<Vec<Span>>, AllocError>
-    ensures { IfOk result (AreAgreedFiles holder.now files.now) }
+) -> Result<Option<Vec<Span>>, TableFault>
+    ensures { IfOk result (AreAgreed holder.now files.now) }
 {
     let found = given_by(alloc, holder, files)?;
     match found {
@@ -68,184 +50,116 @@ fn agreed_files(
     }
 }
 
-/// Returns what card files give together; none if they can't be the downloads of a driver with this holder and count.
-fn counted_files(
-    alloc: Global,
-    holder: &[u8],
-    count: u64,
-    files: &[FileRow],
-) -> Result<Option<Vec<Span>>, AllocError>
-    ensures { IfOk result (IsRightList holder.now count files.now) }
-{
-    let counted = are_counted(count, files);
-    if !counted {
-        return Ok(None);
-    }
-    agreed_files(alloc, holder, files)
-}
-
-/// Returns what a driver's card files give together; none if they can't be the downloads of a driver with this holder and count.
+/// Returns what a driver's downloads give; none if a driver with this holder and count can't have these rows.
 fn downloaded(
     alloc: Global,
     holder: &[u8],
     count: u64,
-    files: &Option<Vec<FileRow>>,
-) -> Result<Option<Vec<Span>>, AllocError>
-    ensures { IfOk result (AreRightFiles holder.now count files.now) }
+    rows: &[Row],
+) -> Result<Option<Vec<Span>>, TableFault>
+    ensures { IfOk result (λ given. (n : ℕ) (own : List Values) → AreShown n download_table.columns three_shown own rows.now
+        → AreDownloads n holder.now count own given) }
 {
-    match files {
+    let found = counted(alloc, rows, count)?;
+    match found {
         None => Ok(None),
-        Some(files) => counted_files(alloc, holder, count, files),
+        Some(files) => agreed_files(alloc, holder, &files),
     }
 }
 
-/// Returns true if stored spans keep exactly what others give.
-fn kept(alloc: Global, spans: &Option<Vec<Span>>, given: &[Span]) -> Result<bool, AllocError>
-    ensures { IfOk result (λ kept. IsTrue kept ↔ RightSpans spans.now given.now) }
+/// Returns true if rows of spans keep exactly what others give.
+fn kept(alloc: Global, rows: &[Row], given: &[Span]) -> Result<bool, TableFault>
+    ensures { IfOk result (λ kept. (n : ℕ) (own : List Values) → AreShown n (span_table []).columns three_shown own rows.now
+        → (IsTrue kept ↔ AreKept n own given.now)) }
 {
-    match spans {
+    let found = parsed(alloc, rows)?;
+    match found {
         None => Ok(false),
-        Some(spans) => keeps(alloc, spans, given),
+        Some(spans) => keeps(alloc, &spans, given),
     }
 }
 
-/// Appends spans.
-fn append(all: &mut Vec<Span>, spans: &[Span]) -> Result<(), AllocError>
-    ensures { OnOk result (all.new.items ≡ all.old.items ++ spans.now) }
-{
-    for span in spans {
-        all.push(*span)?;
-    }
-    Ok(())
-}
-
-/// Returns what downloads and entries give together.
-fn together(alloc: Global, given: &[Span], hours: &[HoursRow]) -> Result<Vec<Span>, AllocError>
-    ensures { IfOk result (λ all. all.items ≡ given.now ++ entered_hours hours.now) }
-{
-    let mut all = Vec::new(alloc);
-    append(&mut all, given)?;
-    let more = entered(alloc, hours)?;
-    append(&mut all, &more)?;
-    Ok(all)
-}
-
-/// Returns true if there are as many entries as are counted, in order.
-fn are_whole(count: u64, hours: &[HoursRow]) -> bool
-    ensures { IsTrue result ↔ AreWhole count hours.now }
-{
-    hours.len() as u64 == count && are_in_order(hours)
-}
-
-/// Returns what downloads and entries give together; none if these can't be the entries of a driver with this count.
-fn whole_hours(
-    alloc: Global,
-    count: u64,
-    hours: &[HoursRow],
-    given: &[Span],
-) -> Result<Option<Vec<Span>>, AllocError>
-    ensures { IfOk result (IsRightHoursList count hours.now given.now) }
-{
-    let whole = are_whole(count, hours);
-    if !whole {
-        return Ok(None);
-    }
-    let all = together(alloc, given, hours)?;
-    agreed(alloc, all)
-}
-
-/// Returns what downloads and entries give together; none if these can't be the entries of a driver with this count.
+/// Returns what downloads and entries give together; none if a driver with this count of entries can't have these rows of entries.
 fn held_by(
     alloc: Global,
     count: u64,
-    hours: &Option<Vec<HoursRow>>,
-    given: &[Span],
-) -> Result<Option<Vec<Span>>, AllocError>
-    ensures { IfOk result (AreRightHours count hours.now given.now) }
+    rows: &[Row],
+    given: Vec<Span>,
+) -> Result<Option<Vec<Span>>, TableFault>
+    ensures { IfOk result (λ all. (n : ℕ) (own : List Values) → AreShown n entry_table.columns seven_shown own rows.now
+        → AreEntries n count own given.items all) }
 {
-    match hours {
-        None => Ok(None),
-        Some(hours) => whole_hours(alloc, count, hours, given),
-    }
+    let found = counted::<HoursRow>(alloc, rows, count)?;
+    let Some(hours) = found else {
+        return Ok(None);
+    };
+    let mut all = given;
+    enter(&mut all, &hours)?;
+    agreed(alloc, all)
 }
 
-/// Returns the first table whose rows aren't right.
-fn first_wrong(
-    alloc: Global,
-    basis: Basis,
-    files: &Option<Vec<FileRow>>,
-    cards: &Option<Vec<Span>>,
-    hours: &Option<Vec<HoursRow>>,
-    held: &Option<Vec<Span>>,
-) -> Result<Option<TableName>, AllocError>
-    ensures { IfOk result (IsFirstWrong basis files.now cards.now hours.now held.now) }
+/// Returns the first table whose rows aren't those of a state within its limits, for a driver with a row in `drivers`.
+fn first_wrong(alloc: Global, basis: Basis, rows: &OwnRows) -> Result<Option<TableName>, TableFault>
+    ensures { IfOk result (λ found. (own : Name → List Values) (r : DriverRow) → IsReadDriver own r basis rows.now
+        → IsJudged own (pos r.driver) found) }
 {
-    let downloads = downloaded(alloc, &basis.holder, basis.downloads, files)?;
+    let downloads = downloaded(alloc, &basis.holder, basis.downloads, &rows.downloads)?;
     let Some(given) = downloads else {
         return Ok(Some(TableName::Downloads));
     };
-    if !kept(alloc, cards, &given)? {
+    if !kept(alloc, &rows.card_spans, &given)? {
         return Ok(Some(TableName::CardSpans));
     }
-    let together = held_by(alloc, basis.entries, hours, &given)?;
+    let together = held_by(alloc, basis.entries, &rows.entry_rows, given)?;
     let Some(all) = together else {
         return Ok(Some(TableName::EntryRows));
     };
-    if !kept(alloc, held, &all)? {
+    if !kept(alloc, &rows.held, &all)? {
         return Ok(Some(TableName::Held));
     }
     Ok(None)
 }
 
-/// Returns the first table at which the rows of a driver with a row in `drivers` aren't those of a state within its limits. `None` in place of a table's rows
-/// says that they aren't rows of a state at all.
-pub fn judge(
-    alloc: Global,
-    basis: Basis,
-    files: &Option<Vec<FileRow>>,
-    cards: &Option<Vec<Span>>,
-    hours: &Option<Vec<HoursRow>>,
-    held: &Option<Vec<Span>>,
-) -> Result<Option<TableName>, AllocError>
-    ensures { IfOk result (λ found. (rows : Name → List Row) (r : DriverRow)
-        → IsReadDriver rows r basis files.now cards.now hours.now held.now → IsJudged rows (pos r.driver) found) }
+/// Returns the first table that has rows, for a driver without a row in `drivers`.
+fn first_with_rows(rows: &OwnRows) -> Option<TableName>
+    ensures { (own : Name → List Values) (n : ℤ) → own TableName.Drivers ≡ [] → AreOwnRows own rows.now → IsJudged own n result }
 {
-    first_wrong(alloc, basis, files, cards, hours, held)
-}
-
-/// Returns the first table after `drivers` that has rows.
-fn first_with_rows(
-    downloads: bool,
-    card_spans: bool,
-    entry_rows: bool,
-    held: bool,
-) -> Option<TableName>
-    ensures { result ≡ first_present downloads card_spans entry_rows held }
-{
-    if downloads {
+    if !rows.downloads.is_empty() {
         Some(TableName::Downloads)
-    } else if card_spans {
+    } else if !rows.card_spans.is_empty() {
         Some(TableName::CardSpans)
-    } else if entry_rows {
+    } else if !rows.entry_rows.is_empty() {
         Some(TableName::EntryRows)
-    } else if held {
+    } else if !rows.held.is_empty() {
         Some(TableName::Held)
     } else {
         None
     }
 }
 
-/// Returns the first table at which the rows of a driver without a row in `drivers` aren't those of a state, from which of the other tables
-/// have rows of that driver.
-pub fn judge_absent(
-    downloads: bool,
-    card_spans: bool,
-    entry_rows: bool,
-    held: bool,
-) -> Option<TableName>
-    ensures { (rows : Name → List Row) (n : ℤ) → rows TableName.Drivers ≡ [] → HasRows rows TableName.Downloads downloads
-        → HasRows rows TableName.CardSpans card_spans → HasRows rows TableName.EntryRows entry_rows
-        → HasRows rows TableName.Held held → IsJudged rows n result }
+/// Returns the first table at which no state within its limits has a driver's rows, or none.
+fn judge(alloc: Global, rows: &OwnRows) -> Result<Option<TableName>, TableFault>
+    ensures { IfOk result (λ found. (layout : Layout) (db : Trees) (n : ℤ) → IsReadable layout db
+        → AreOwnRows (own_in layout db n) rows.now → IsJudged (own_in layout db n) n found) }
 {
-    first_with_rows(downloads, card_spans, entry_rows, held)
+    match rows.drivers.as_slice() {
+        [] => Ok(first_with_rows(rows)),
+        [row] => match basis_of(row) {
+            None => Ok(Some(TableName::Drivers)),
+            Some(basis) => first_wrong(alloc, basis, rows),
+        },
+        _ => Ok(Some(TableName::Drivers)),
+    }
+}
+
+/// Judges the stored rows of a driver: returns the first table at which no state within its limits has them, or none.
+pub fn judge_driver<S: Alter>(
+    alloc: Global,
+    tx: &mut Transaction<'_, S>,
+    driver: i64,
+) -> Result<Option<TableName>, TableFault>
+    ensures { Asks S.Store tx.old.conn tx.new.conn result (λ layout db found. IsJudged (own_in layout db driver) driver found) }
+{
+    let rows = read_own(tx, driver)?;
+    judge(alloc, &rows)
 }

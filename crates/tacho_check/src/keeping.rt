@@ -5,17 +5,18 @@ ghost use Rattle.tacho_time.specs.Spans.{Gives, GiveSame};
 ghost use Rattle.tacho_state.specs.Disjoint.{AreDisjoint, Keeps};
 ghost use Rattle.tacho_check.specs.Keeping.{same_span, same_lists, same_found, Rise, IsListOf};
 
-use std::alloc::{AllocError, Global};
+use std::alloc::Global;
+use tacho_tables::TableFault;
 use tacho_time::{Span, SpanFault, canonical_spans};
 
 /// Returns the canonical list of what spans give; none if a minute has two marks. The spans may come in any order, overlap, or be empty.
-pub fn canonical(alloc: Global, spans: &[Span]) -> Result<Option<Vec<Span>>, AllocError>
+pub fn canonical(alloc: Global, spans: &[Span]) -> Result<Option<Vec<Span>>, TableFault>
     ensures { IfOk result (IsListOf spans.now) }
 {
     match canonical_spans(alloc, spans) {
         Ok(list) => Ok(Some(list)),
         Err(SpanFault::Contradiction(_)) => Ok(None),
-        Err(SpanFault::Memory) => Err(AllocError),
+        Err(SpanFault::Memory) => Err(TableFault::Memory),
     }
 }
 
@@ -67,24 +68,19 @@ fn agree(own: &Option<Vec<Span>>, others: &Option<Vec<Span>>) -> bool
     }
 }
 
-/// Copies spans.
-fn copied(alloc: Global, spans: &[Span]) -> Result<Vec<Span>, AllocError>
-    ensures { IfOk result (λ all. all.items ≡ spans.now) }
-{
-    spans.iter().copied().collect(alloc)
-}
-
 /// Returns true if the spans share no minute and none is empty. They may come in any order.
-fn are_disjoint(alloc: Global, spans: &[Span]) -> Result<bool, AllocError>
+fn are_disjoint(alloc: Global, spans: &[Span]) -> Result<bool, TableFault>
     ensures { IfOk result (λ disjoint. IsTrue disjoint ↔ AreDisjoint spans.now) }
 {
-    let mut ordered = copied(alloc, spans)?;
+    let Ok(mut ordered) = Vec::from_slice(alloc, spans) else {
+        return Err(TableFault::Memory);
+    };
     ordered.sort_unstable_by_key(|span| span.start.number());
     Ok(rise(&ordered))
 }
 
 /// Returns true if disjoint spans give exactly what others give.
-fn give_same(alloc: Global, spans: &[Span], given: &[Span]) -> Result<bool, AllocError>
+fn give_same(alloc: Global, spans: &[Span], given: &[Span]) -> Result<bool, TableFault>
     requires { AreDisjoint spans.now }
     ensures { IfOk result (λ same. IsTrue same ↔ GiveSame spans.now given.now) }
 {
@@ -95,7 +91,7 @@ fn give_same(alloc: Global, spans: &[Span], given: &[Span]) -> Result<bool, Allo
 
 /// Returns true if spans, in any order, keep exactly what others give: they are disjoint, none is empty, and they give the same.
 #[tactic(auto, using(crate::proofs::KeepLemmas::decides_kept, crate::proofs::KeepLemmas::decides_unkept))]
-pub fn keeps(alloc: Global, spans: &[Span], given: &[Span]) -> Result<bool, AllocError>
+pub fn keeps(alloc: Global, spans: &[Span], given: &[Span]) -> Result<bool, TableFault>
     ensures { IfOk result (λ kept. IsTrue kept ↔ Keeps spans.now (Gives given.now)) }
 {
     if !are_disjoint(alloc, spans)? {

@@ -5,12 +5,9 @@
 mod cells;
 pub mod checking;
 pub mod current;
-pub mod file_parsing;
 pub mod files;
-pub mod hour_parsing;
 pub mod hours;
 pub mod judgement;
-pub mod judging;
 pub mod keeping;
 pub mod laws;
 pub mod numbers;

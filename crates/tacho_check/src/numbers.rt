@@ -1,25 +1,23 @@
 //! The numbers of all drivers.
 
-ghost use Rattle.std.specs.Prelude.{◌≡◌, map, IfOk};
+ghost use Rattle.std.specs.Prelude.{◌≡◌};
 ghost use Rattle.tacho_tables.specs.Schema.{driver_rows};
-ghost use Rattle.tacho_tables.specs.Ask.{Asks, number_shown};
-ghost use Rattle.tacho_check.specs.Numbers.{number_row, AreAllNumbers};
+ghost use Rattle.tacho_tables.specs.Ask.{Asks};
+ghost use Rattle.tacho_check.specs.Numbers.{IsDriverNumber, AreAllNumbers};
 
+use crate::parsing::{FromRow, parsed};
+use sqlite::types::ValueRef;
 use sqlite::{Alter, Row, Transaction};
 use std::alloc::Global;
 use tacho_tables::TableFault;
 use tacho_tables::asking::number_rows;
 
-/// Returns the first number of each row.
-fn numbers_in(alloc: Global, rows: &[Row]) -> Result<Vec<i64>, TableFault>
-    ensures { IfOk result (λ found. map number_row found.items ≡ map number_shown rows.now) }
-{
-    let mut numbers = Vec::new(alloc);
-    for row in rows {
-        let number = row.get(0)?;
-        numbers.push(number)?;
+impl FromRow for i64 {
+    ghost is_of = { IsDriverNumber };
+
+    fn from_row(_alloc: Global, row: &Row) -> Result<Option<i64>, TableFault> {
+        Ok(Some(row.get(0)?))
     }
-    Ok(numbers)
 }
 
 /// Reads the numbers of all drivers, the lowest first.
@@ -31,7 +29,9 @@ pub fn driver_numbers<S: Alter>(
         (λ layout db found. AreAllNumbers (db driver_rows) found.items) }
 {
     let rows = number_rows(tx)?;
-    let mut numbers = numbers_in(alloc, &rows)?;
+    let Some(mut numbers) = parsed::<i64>(alloc, &rows)? else {
+        return Err(TableFault::Store);
+    };
     numbers.sort_unstable();
     Ok(numbers)
 }

@@ -1,7 +1,6 @@
 use Rattle.std.proofs.Common.{rules}
 use Rattle.sqlite.specs.Held.{state}
 use Rattle.sqlite.specs.State.{HasCleanDisk}
-use Rattle.tacho_check.proofs.CheckLemmas.{if_so}
 use Rattle.tacho_check.proofs.checking.check_drivers.Goals as goal
 
 pub returns-in-Ok-read_within-clause-checks : goal.returns-in-Ok-read_within-clause-checks
@@ -11,7 +10,7 @@ returns-in-Ok-read_within-clause-checks g c = record {
   live = search rules;
   same = search rules;
   survives = search rules;
-  found = λ clean is. if_so c.checked_in.result _ _ (λ ready.
+  found = λ clean is.
       let before : HasCleanDisk (state g.S.Store c.checked_in.new.tx.conn.now) = search rules in
-      (rw c.read_within-transaction.ensures.begun at c.checked_in.ensures.asks.found before) is ready);
+      (rw c.read_within-transaction.ensures.begun at c.checked_in.ensures.asks.found before) is;
 }

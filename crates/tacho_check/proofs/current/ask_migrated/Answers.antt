@@ -1,9 +1,8 @@
-use Rattle.tacho_check.proofs.LearnLemmas.{then_learned, learned_none}
+use Rattle.tacho_check.proofs.LearnLemmas.{both, learned_as, learned_none}
 use Rattle.tacho_check.proofs.current.ask_migrated.Goals as goal
 
 pub returns : goal.returns
-returns g c = then_learned c.in_ok-ask_old_entries.field-0 c.in_ok-ask_old_entries.ensures c.ask_meta.result c.ask_meta.ensures
-    (λ layout db none _ version. (version, none))
+returns g c = learned_as c.ask_meta.result (both c.in_ok-ask_old_entries.ensures c.ask_meta.ensures) (λ is _ found. (found.1, found.0))
 
 pub returns-in_err-ask_old_entries : goal.returns-in_err-ask_old_entries
 returns-in_err-ask_old_entries g c =

@@ -1,13 +1,14 @@
-use Rattle.std.proofs.Common.{◌≡◌, ◌∙◌, true, false, List, refl, subst, sym}
+use Rattle.std.proofs.Common.{List, refl, subst}
 use Rattle.tacho_time.specs.declared.span.Span.{Span}
 use Rattle.tacho_check.specs.Fits.{Agrees}
+use Rattle.tacho_check.proofs.AgreedLemmas.{listed_agree, unlisted_disagree}
 use Rattle.tacho_check.proofs.judgement.agreed.Goals as goal
 
-pub returns-then-branch : goal.returns-then-branch
-returns-then-branch c =
-    (subst (λ (ws : List Span). Agrees ws) c.deref.ensures.value (c.in_ok-agrees.ensures.0 c.if-branch.true), refl)
+pub returns-in-Some : goal.returns-in-Some
+returns-in-Some c =
+    (subst Agrees c.deref.ensures.value (listed_agree c.deref.result.now c.in_ok-list.list c.in-Some.field-0 c.in-Some.is c.in_ok-list.ensures), refl)
 
-pub returns-else-branch : goal.returns-else-branch
-returns-else-branch c = λ agrees.
-    let e : false ≡ true = sym c.if-branch.false ∙ c.in_ok-agrees.ensures.1
-    (subst (λ (ws : List Span). Agrees ws) (sym c.deref.ensures.value) agrees) in cc
+pub returns-in-None : goal.returns-in-None
+returns-in-None c =
+    subst (λ (spans : List Span). ¬ (Agrees spans)) c.deref.ensures.value
+    (unlisted_disagree c.deref.result.now c.in_ok-list.list c.in-None.is c.in_ok-list.ensures)

@@ -1,12 +1,18 @@
-use Rattle.std.proofs.Common.{List, subst}
+use Rattle.std.proofs.Common.{◌++◌, ◌∙◌, ap, subst}
 use Rattle.std.proofs.lemmas.Result.{IfOk-weaker}
-use Rattle.tacho_check.specs.declared.hours.HoursRow.{HoursRow}
-use Rattle.tacho_check.specs.Judged.{IsRightHoursList}
-use Rattle.tacho_check.proofs.AgreedLemmas.{right_hours}
+use Rattle.tacho_check.specs.Hours.{entered_hours}
+use Rattle.tacho_check.specs.Parsed.{IsParsed, AreNumbered}
+use Rattle.tacho_check.specs.Typed.{ShowsEntry, AreHours}
+use Rattle.tacho_check.proofs.EntryLemmas.{none_fit, entries_judged}
 use Rattle.tacho_check.proofs.judgement.held_by.Goals as goal
 
-pub returns-in-Some : goal.returns-in-Some
-returns-in-Some c = IfOk-weaker c.whole_hours.result _ _
-    (λ found right. right_hours c.args.count c.args.hours.now c.in-Some.hours c.in-Some.is c.args.given.now found
-    (subst (λ (hours : List HoursRow). IsRightHoursList c.args.count hours c.args.given.now found) c.deref.ensures.value right))
-    c.whole_hours.ensures
+pub returns-in_default : goal.returns-in_default
+returns-in_default c n own it =
+    none_fit n c.args.count own c.args.rows.now it c.args.given.items
+    (subst (AreNumbered (IsParsed ShowsEntry AreHours) (λ h. h.number) c.args.count c.args.rows.now) c.in_default.is c.in_ok-found.ensures)
+
+pub returns : goal.returns
+returns c = IfOk-weaker c.agreed.result _ _
+    (λ r agreed n own it. entries_judged n c.args.count own c.args.rows.now it c.args.given.items c.in-Some.hours
+    (subst (AreNumbered (IsParsed ShowsEntry AreHours) (λ h. h.number) c.args.count c.args.rows.now) c.in-Some.is c.in_ok-found.ensures)
+    c.enter.new.given.items (c.in_ok-enter.ensures ∙ ap (λ hours. c.args.given.items ++ entered_hours hours) c.deref.ensures.value) r agreed) c.agreed.ensures

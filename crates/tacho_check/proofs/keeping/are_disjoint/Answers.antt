@@ -8,7 +8,7 @@ use Rattle.tacho_check.proofs.keeping.are_disjoint.Goals as goal
 pub returns : goal.returns
 returns c =
     let sorted = c.sort_unstable_by_key.new.self.items in
-    let only = subst (λ (xs : List Span). IsPermutation xs sorted) c.in_ok-ordered.ensures c.sort_unstable_by_key.ensures.permutation in
+    let only = subst (λ (xs : List Span). IsPermutation xs sorted) c.in-Ok.ensures.items c.sort_unstable_by_key.ensures.permutation in
     let up = IsNonDecreasingBy-from_sort_by_key (λ (s : Span). s.start) sorted c.sort_unstable_by_key.ensures.sorted
     (λ a r q k. search rules) in
     decides_disjoint c.args.spans.now sorted only up c.rise.result (rw c.deref.ensures.value at c.rise.ensures)

@@ -1,7 +1,0 @@
-use Rattle.std.proofs.Common.{◌≡◌, ◌++◌, drop}
-use Rattle.tacho_check.specs.Hours.{entered_hours}
-use Rattle.tacho_check.proofs.hours.entered.Given as goal
-
--- the spans so far, followed by those of the remaining rows, are those of all rows
-abbrev pub invariant-loop-row : goal.invariant-loop-row
-invariant-loop-row l = l.given.items ++ entered_hours (drop l.row-index l.rows) ≡ entered_hours l.rows
