@@ -12,7 +12,8 @@ use Rattle.sqlite_schema.specs.Rules.{are_typed, suits}
 use Rattle.sqlite_catalog.specs.Listing.{IsSound}
 use Rattle.sqlite_rules.specs.Lists.{Has}
 use Rattle.sqlite_trees.specs.Tree.{Trees}
-use Rattle.tacho_tables.specs.Schema.{Layout, Made, Carried, archive_schema}
+use Rattle.tacho_tables.specs.Schema.{current_version, Layout, Made, Carried, archive_schema}
+use Rattle.tacho_tables.proofs.Places.{meta_at}
 use Rattle.tacho_tables.specs.Schema as tree
 use Rattle.tacho_tables.specs.Tables.{IsVersion, HasNoOldEntries}
 use Rattle.tacho_tables.specs.Ask.{AreFirst, meta_shown, old_entry_shown}
@@ -59,14 +60,10 @@ row_is (v ∷ a ∷ b ∷ d ∷ w) typed e =
     let last = and_parts (suits version_column b) (are_typed (Some 0) 2 [] (d ∷ w)) more.1 in
     absurd (true≢false (sym last.1))
 
-meta_at : (layout : Layout) → slice_get (archive_schema layout).tables 0 ≡ Some tree.meta
-meta_at Made = refl
-meta_at Carried = refl
-
--- where the rows that were read are the one row of version 2, so are the stored rows
+-- where the rows that were read are the one row of the current version, so are the stored rows
 pub version_is : (layout : Layout) (db : Trees) → IsSound (archive_schema layout) db → (rows : List Row)
     → AreFirst 2 (map meta_shown (db tree.meta_rows)) rows → rows ≡ current_shown ∷ []
-    → IsVersion 2 db
+    → IsVersion current_version db
 version_is layout db sound rows shown is =
     let stored = db tree.meta_rows in
     let listed = one_taken current_shown shown.listed (sym shown.first ∙ is) in

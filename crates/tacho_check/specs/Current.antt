@@ -2,7 +2,8 @@
 use Rattle.std.specs.Prelude.{pos, [], ◌∷◌}
 use Rattle.sqlite.specs.declared.types.Value.TheVariants.{Int}
 use Rattle.sqlite.specs.Order.{Row}
+use Rattle.tacho_tables.specs.Schema.{current_version}
 
 -- what is shown of the only row of `meta`
 abbrev pub current_shown : Row
-current_shown = Int (pos 1) ∷ Int (pos 2) ∷ []
+current_shown = Int (pos 1) ∷ Int (pos current_version) ∷ []

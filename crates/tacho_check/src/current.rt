@@ -2,6 +2,7 @@
 
 ghost use Rattle.std.specs.Prelude.{◌≡◌, [], ◌∷◌, false, IsTrue, IfErr, OnOk};
 ghost use Rattle.sqlite.specs.Held.{state};
+ghost use Rattle.tacho_tables.specs.Schema.{current_version};
 ghost use Rattle.tacho_tables.specs.Tables.{IsVersion, HasNoOldEntries};
 ghost use Rattle.tacho_tables.specs.Ask.{Learns, has_old_table};
 ghost use Rattle.tacho_reading.specs.Kept.{HasGivenUp};
@@ -12,9 +13,10 @@ use sqlite::{Alter, Connection, Row, Transaction};
 use tacho_reading::fault::store_fault;
 use tacho_state::StoreFault;
 use tacho_tables::asking::{meta_rows, old_entry_rows};
+use tacho_tables::making::CURRENT_VERSION;
 use tacho_tables::{TableFault, opening};
 
-/// Asks whether a row has id 1 and version 2.
+/// Asks whether a row has id 1 and the current version.
 fn ask_row(row: &Row) -> Result<(), TableFault>
     ensures { OnOk result (row.now ≡ current_shown) }
 {
@@ -23,13 +25,13 @@ fn ask_row(row: &Row) -> Result<(), TableFault>
     }
     let id: i64 = row.get(0)?;
     let version: i64 = row.get(1)?;
-    if id != 1 || version != 2 {
+    if id != 1 || version != i64::from(CURRENT_VERSION) {
         return Err(TableFault::Store);
     }
     Ok(())
 }
 
-/// Asks whether there is one row, with id 1 and version 2.
+/// Asks whether there is one row, with id 1 and the current version.
 fn ask_rows(rows: &[Row]) -> Result<(), TableFault>
     ensures { OnOk result (rows.now ≡ current_shown ∷ []) }
 {
@@ -39,9 +41,9 @@ fn ask_rows(rows: &[Row]) -> Result<(), TableFault>
     }
 }
 
-/// Asks whether `meta` has its one row, with version 2.
+/// Asks whether `meta` has its one row, with the current version.
 fn ask_meta<S: Alter>(tx: &mut Transaction<'_, S>) -> Result<(), TableFault>
-    ensures { Learns S.Store tx.old.conn tx.new.conn result (λ layout db _. IsVersion 2 db) }
+    ensures { Learns S.Store tx.old.conn tx.new.conn result (λ layout db _. IsVersion current_version db) }
 {
     let rows = meta_rows(tx)?;
     ask_rows(&rows)
@@ -70,7 +72,7 @@ fn ask_old_entries<S: Alter>(tx: &mut Transaction<'_, S>) -> Result<(), TableFau
 fn ask_migrated<S: Alter>(tx: &mut Transaction<'_, S>) -> Result<(), TableFault>
     requires { IsTrue (has_old_table (state S.Store tx.old.conn.now)) }
     ensures { Learns S.Store tx.old.conn tx.new.conn result
-        (λ layout db _. IsVersion 2 db × HasNoOldEntries layout db) }
+        (λ layout db _. IsVersion current_version db × HasNoOldEntries layout db) }
 {
     ask_old_entries(tx)?;
     ask_meta(tx)
@@ -80,7 +82,7 @@ fn ask_migrated<S: Alter>(tx: &mut Transaction<'_, S>) -> Result<(), TableFault>
 fn ask_current_in<S: Alter>(tx: &mut Transaction<'_, S>, has_old: bool) -> Result<(), TableFault>
     requires { has_old ≡ has_old_table (state S.Store tx.old.conn.now) }
     ensures { Learns S.Store tx.old.conn tx.new.conn result
-        (λ layout db _. IsVersion 2 db × HasNoOldEntries layout db) }
+        (λ layout db _. IsVersion current_version db × HasNoOldEntries layout db) }
 {
     if has_old {
         ask_migrated(tx)
@@ -89,14 +91,14 @@ fn ask_current_in<S: Alter>(tx: &mut Transaction<'_, S>, has_old: bool) -> Resul
     }
 }
 
-/// Asks whether `meta` has its one row, with version 2, and whether `entries`, the table of schema 1 that a migrated archive keeps, has
+/// Asks whether `meta` has its one row, with the current version, and whether `entries`, the table of schema 1 that a migrated archive keeps, has
 /// no rows. It changes nothing. Fails with S12 if not.
 pub fn ask_current<S: Alter>(conn: &mut Connection<S>) -> Result<(), StoreFault>
     requires { conn.old.in_transaction ≡ false }
     ensures autocommit { conn.new.in_transaction ≡ false }
     ensures refused { IfErr result HasGivenUp }
     ensures current { Checks S.Store conn.old conn.new result
-        (λ layout db _. IsVersion 2 db × HasNoOldEntries layout db) }
+        (λ layout db _. IsVersion current_version db × HasNoOldEntries layout db) }
 {
     let has_old = opening::has_old_archive(conn);
     // For the proof alone: nothing is pending, so what is seen is what was committed.

@@ -5,7 +5,7 @@ use Rattle.sqlite.specs.Schema.{Schema}
 use Rattle.sqlite.specs.State.{State as Sqlite, HasCleanDisk, IsLive}
 use Rattle.sqlite.specs.Tree.{Trees}
 use Rattle.sqlite_catalog.proofs.ReadLemmas.{lists_once}
-use Rattle.tacho_tables.specs.Schema.{Layout, archive_schema, old_schema}
+use Rattle.tacho_tables.specs.Schema.{Layout, archive_schema, current_version, old_schema, old_version}
 use Rattle.tacho_tables.specs.Tables.{IsVersion}
 use Rattle.tacho_tables.specs.Making.{IsVersioned}
 use Rattle.tacho_state.specs.State.{State}
@@ -30,10 +30,11 @@ versioned d is it =
     (lists_once _ it.0 d.schema it.2.lists is.lists) it.1
 
 -- if the version can only be 2, the tables represent no state of schema 1
-pub not_of_one : (old : Sqlite) → (AreVersioned old.now.trees → (version : ℕ) → IsVersion version old.now.trees → version ≡ 2)
+pub not_of_one : (old : Sqlite)
+    → (AreVersioned old.now.trees → (version : ℕ) → IsVersion version old.now.trees → version ≡ current_version)
     → (s : OldState) → ¬ StoodFor old.now.trees s
 unfolding StoodFor
-not_of_one old it s stood = absurd (let two = it (once_versioned_by old.now.trees s stood) 1 stood.1.meta in cc)
+not_of_one old it s stood = absurd (let two = it (once_versioned_by old.now.trees s stood) old_version stood.1.meta in cc)
 
 -- if an open connection found version 1 by its own schema, the stored tables have version 1
 pub old_by : (old : Sqlite) → IsLive old → IsTrue old.is_open → IsFoundOld old → IsOld old

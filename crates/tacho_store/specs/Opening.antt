@@ -10,7 +10,7 @@ use Rattle.sqlite_catalog.specs.Listing.{IsSound}
 use Rattle.tacho_state.specs.declared.fault.StoreFault.{StoreFault}
 use Rattle.tacho_state.specs.declared.fault.StoreFault.TheVariants.{OldSchema}
 use Rattle.tacho_state.specs.State.{State}
-use Rattle.tacho_tables.specs.Schema.{old_schema, meta_rows, has_tables, has_archive_tables, old_names}
+use Rattle.tacho_tables.specs.Schema.{current_version, old_schema, old_version, meta_rows, has_tables, has_archive_tables, old_names}
 use Rattle.tacho_tables.specs.Making.{IsVersioned, TellsVersion}
 use Rattle.tacho_tables.specs.Tables.{IsVersion}
 use Rattle.tacho_tables.specs.Calls.{Stays}
@@ -39,14 +39,14 @@ pub record IsOld (c : Sqlite) : Type 0 where
   pub names : IsTrue (has_tables old_names c.now.schema)
   pub none : (s : State) → ¬ Represents c.now.trees s
   pub stated : AreVersioned c.now.trees → c.now.trees meta_rows ≢ []
-  pub version : AreVersioned c.now.trees → (version : ℕ) → IsVersion version c.now.trees → version ≡ 1
+  pub version : AreVersioned c.now.trees → (version : ℕ) → IsVersion version c.now.trees → version ≡ old_version
 
 -- the store has tables with the names of schema 1; if the connection's own schema is 1 or 2, they state a version, and it is 1
 pub record IsFoundOld (c : Sqlite) : Type 0 where
   pub tables : ¬ IsBlank c
   pub names : IsTrue (has_tables old_names c.now.schema)
   pub stated : IsVersioned c.now → c.now.trees meta_rows ≢ []
-  pub version : IsVersioned c.now → (version : ℕ) → IsVersion version c.now.trees → version ≡ 1
+  pub version : IsVersioned c.now → (version : ℕ) → IsVersion version c.now.trees → version ≡ old_version
 
 -- the faults with which a store isn't adopted
 abbrev pub IsOpeningFault : StoreFault → Type 0
@@ -103,7 +103,8 @@ module _ (old new : Sqlite) where
       pub names : OnOk result (IsTrue (has_archive_tables old.now.schema))
       pub missing : HasCleanDisk new → IsBlank old → IsErr result
       pub stated : HasCleanDisk new → IsVersioned old.now → OnOk result (old.now.trees meta_rows ≢ [])
-      pub version : HasCleanDisk new → IsVersioned old.now → (version : ℕ) → IsVersion version old.now.trees → OnOk result (version ≡ 2)
+      pub version : HasCleanDisk new → IsVersioned old.now → (version : ℕ) → IsVersion version old.now.trees
+          → OnOk result (version ≡ current_version)
       pub is_old : HasCleanDisk new → result ≡ Err OldSchema → IsTrue new.is_open × IsFoundOld old
 
     -- tables of schema 1 were migrated, or nothing has changed; a crash leaves what it would have left before the call, or the migrated
@@ -158,7 +159,7 @@ module _ {K : Type 0} (stands : K → State → Type 0) (is_live : K → Type 0)
     pub names : IsTrue (has_archive_tables old.now.schema)
     pub none : (s : OldState) → ¬ StoodFor old.now.trees s
     pub stated : AreVersioned old.now.trees → old.now.trees meta_rows ≢ []
-    pub version : AreVersioned old.now.trees → (version : ℕ) → IsVersion version old.now.trees → version ≡ 2
+    pub version : AreVersioned old.now.trees → (version : ℕ) → IsVersion version old.now.trees → version ≡ current_version
 
   -- the archive that the store had: of schema 1, with the office as the author of its entries, or of schema 2, as it was; until it is
   -- changed, a crash leaves it as it is

@@ -28,6 +28,7 @@ use tacho_state::{
     StoreFault, content_of,
 };
 use tacho_stretches::Stretch;
+use tacho_tables::making::{CURRENT_VERSION, OLD_VERSION};
 use tacho_tables::{making, opening};
 use tacho_time::{Day, Minute};
 
@@ -101,8 +102,8 @@ fn check<S: Alter>(conn: &mut Connection<S>) -> Result<(), StoreFault>
     let _settled = conn.is_autocommit();
     opening::ask(conn).map_err(store_fault)?;
     match version {
-        Some(2) if has_archive => Ok(()),
-        Some(1) if has_old_archive => Err(StoreFault::OldSchema),
+        Some(CURRENT_VERSION) if has_archive => Ok(()),
+        Some(OLD_VERSION) if has_old_archive => Err(StoreFault::OldSchema),
         _ => Err(StoreFault::Store),
     }
 }
