@@ -1,8 +1,7 @@
 pub mod PlaceLemmas
 pub mod RowLemmas
 pub mod GainLemmas
-pub mod ImportLemmas
-pub mod EntryLemmas
+pub mod KeptLemmas
 pub mod RangeLemmas
 pub mod CallLemmas
 pub mod SummaryLemmas

@@ -1,40 +1,29 @@
 -- A withdrawal of a range of entries, which are all checked first and marked then; and what it answers.
-use Rattle.std.proofs.Common.{◌≡◌, ℕ, zero, suc, ◌+◌, ◌-◌, ◌<◌, ◌≤◌, ◌==◌, Bool, true, false, List, Ok, Err, refl, sym, ap, ◌∙◌, subst, arith}
+use Rattle.std.proofs.Common.{◌≡◌, ℕ, suc, ◌+◌, ◌-◌, ◌<◌, ◌≤◌, ◌==◌, Bool, true, false, List, Ok, Err, refl, sym, ap, ◌∙◌, subst, arith}
 use Rattle.std.proofs.lemmas.Bool.Decides.{nat_tests}
 use Rattle.tacho_state.specs.declared.fault.StoreFault.{StoreFault}
-use Rattle.tacho_state.specs.State.{Driver, Entry, with_marked}
+use Rattle.tacho_state.specs.State.{Driver, Entry, marked_from, with_marked}
 use Rattle.tacho_state.specs.Steps.{and_then, withdraw_own, withdraw_from}
-use Rattle.tacho_state.proofs.RangeLemmas.{IsKept, done_kept, one_more, refused_at, refused_still, still_kept}
-use Rattle.tacho_shelf.specs.Shelf.{IsEnteredAt, IsEntered, AreEntered}
-use Rattle.tacho_shelf.proofs.EntryLemmas.{entry_before, entry_at}
+use Rattle.tacho_state.proofs.RangeLemmas.{IsKept, done_kept, kept_done, one_more, refused_at, refused_still, still_kept}
+use Rattle.tacho_shelf.specs.Shelf.{IsEntered, AreEntered}
 
--- ---- entries that can be withdrawn
+-- the entry with a number can be withdrawn
+kept : (d : Driver) (number : ℕ) → IsEntered d.entries number → IsKept d number
+kept d number h = record { entry = h.0; there = h.1; kept = h.2 }
 
--- the entry with a number is at the place before it
-pub place_before : (entries : List Entry) (number : ℕ) → IsEntered entries number → IsEnteredAt entries number (number - 1)
-place_before entries number h =
-    let at = h.1.0 in
-    let place : h.0 ≡ number - 1 = omega (arith, at) in
-    subst (λ (i : ℕ). IsEnteredAt entries number i) place h.1
-
--- an entry at a place is the one with its number
-entered_kept : (d : Driver) (number : ℕ) → IsEntered d.entries number → IsKept d number
-entered_kept d number h =
-    record { entry = h.1.1.0; there = entry_at 1 number h.0 d.entries h.1.0 ∙ h.1.1.1; kept = h.1.1.2 }
-
--- and the entry with a number is at a place
-kept_entered : (d : Driver) (number : ℕ) → IsKept d number → IsEntered d.entries number
-kept_entered d zero h = let none = sym (entry_before 1 0 d.entries (omega arith)) ∙ h.there in cc
-kept_entered d (suc i) h = (i, (omega arith, (h.entry, sym (entry_at 1 (suc i) i d.entries (omega arith)) ∙ h.there, h.kept)))
+-- so it is withdrawn, and nothing else of the driver changes
+pub is_done : (d : Driver) (number : ℕ) (es : List Entry) → IsEntered d.entries number → es ≡ marked_from 1 number d.entries
+    → withdraw_own number d ≡ Ok (tt, record d { entries = es })
+is_done d number es h e = kept_done d number (kept d number h) ∙ ap (λ (xs : List Entry). Ok (tt, record d { entries = xs })) (sym e)
 
 -- ---- the check
 
--- the entries of the range up to the number at a place can be withdrawn
-pub one_checked : (entries : List Entry) (first number place : ℕ) → ((i : ℕ) → first ≤ i → i < number → IsEntered entries i)
-    → IsEnteredAt entries number place → (i : ℕ) → first ≤ i → i < number + 1 → IsEntered entries i
-one_checked entries first number place before h i low high = go (i == number) refl where
+-- one more entry can be withdrawn
+pub one_checked : (entries : List Entry) (first number : ℕ) → ((i : ℕ) → first ≤ i → i < number → IsEntered entries i)
+    → IsEntered entries number → (i : ℕ) → first ≤ i → i < number + 1 → IsEntered entries i
+one_checked entries first number before h i low high = go (i == number) refl where
   go : (b : Bool) → (i == number) ≡ b → IsEntered entries i
-  go true e = let same : number ≡ i = grind (arith, nat_tests) in subst (IsEntered entries) same (place, h)
+  go true e = let same : number ≡ i = grind (arith, nat_tests) in subst (IsEntered entries) same h
   go false e = let less : i < number = grind (arith, nat_tests) in before i low less
 
 -- the least number that can't be withdrawn refuses the range
@@ -46,7 +35,7 @@ range_refused first number last d fault low high before refused =
     let past : first + (number - first) ≡ number = omega (arith, low) in
     ap (λ k. withdraw_from first k d) all
     ∙ refused_still (last - number) (suc (number - first)) first d fault
-    (refused_at (number - first) first d fault (λ i l h. entered_kept d i (before i l (omega (arith, low, h))))
+    (refused_at (number - first) first d fault (λ i l h. kept d i (before i l (omega (arith, low, h))))
     (ap (λ k. withdraw_own k d) past ∙ refused))
 
 -- ---- the marks
@@ -62,12 +51,12 @@ none_marked first last d h =
     let none : first - first ≡ 0 = omega arith in
     record {
       done = ap (λ k. withdraw_from first k d) none;
-      left = λ i low high. entered_kept d i (h i low high);
+      left = λ i low high. kept d i (h i low high);
     }
 
 -- the entry that is marked next
 pub next_entered : (first number last : ℕ) (old d : Driver) → HasMarked first number last old d → number ≤ last → IsEntered d.entries number
-next_entered first number last old d h high = kept_entered d number (h.left number (omega arith) high)
+next_entered first number last old d h high = let next = h.left number (omega arith) high in (next.entry, next.there, next.kept)
 
 -- then it is withdrawn too
 pub one_marked : (first number last : ℕ) (old d after : Driver) → first ≤ number → HasMarked first number last old d

@@ -1,10 +1,6 @@
 -- Facts about one driver of a shelf.
-use Rattle.std.proofs.Common.{◌≡◌, ℕ, zero, suc, ◌+◌, ◌<◌, ◌≤◌, ◌==◌, nat_lt, true, false, cond, Bor, List, [], ◌∷◌, ◌++◌, length, get_or, slice_get, Option, Some, None, is_some, IfSome, subst, refl, sym, ap, ◌∙◌, arith}
+use Rattle.std.proofs.Common.{◌≡◌, ℕ, List, ◌++◌, Option, Some, None, IfSome, subst, refl, sym, ap, ◌∙◌}
 use Rattle.std.proofs.Math.Path.{fun_ext}
-use Rattle.std.proofs.lemmas.Bool.{eq-eqb}
-use Rattle.std.proofs.lemmas.Bool.Decides.{nat_tests}
-use Rattle.std.proofs.lemmas.Option.{slice_get_past, slice_get_read}
-use Rattle.std.specs.Option.{option_copied}
 use Rattle.tacho_time.specs.declared.span.Span.{Span}
 use Rattle.tacho_time.specs.declared.span.Mark.{Mark}
 use Rattle.tacho_time.specs.Spans.{Gives, IsCanonicalOf, Conflicts}
@@ -12,35 +8,10 @@ use Rattle.tacho_line.specs.Line.{mark_at}
 use Rattle.tacho_line.proofs.LineLemmas.{held_given, given_held as given_held_in}
 use Rattle.tacho_line.proofs.MergeLemmas.{front_gives}
 use Rattle.tacho_state.specs.Disjoint.{Keeps}
-use Rattle.tacho_state.specs.State.{Download, Entry, Driver, State, driver_of, Held, given_spans, entered_spans, held_spans, held_mark, download_from}
+use Rattle.tacho_state.specs.State.{Download, Entry, Driver, State, driver_of, Held, given_spans, entered_spans, held_spans, held_mark}
 use Rattle.tacho_state.proofs.DisjointLemmas.{disjoint_canonical}
 use Rattle.tacho_state.proofs.MapLemmas.{held_map}
 use Rattle.tacho_shelf.specs.Shelf.{AreKept}
-
--- ---- downloads by number
-
--- no download has a number below the first one's
-pub download_before : (i number : ℕ) (ds : List Download) → number < i → download_from i number ds ≡ None
-download_before i number [] l = refl
-download_before i number (d ∷ ds) l =
-    let t : (i == number) ≡ false = grind (arith, nat_tests) in
-    ap (λ b. cond b (Some d) (download_from (i + 1) number ds)) t ∙ download_before (i + 1) number ds (omega arith)
-
--- the download whose number is `i + k` is at place `k`, if the first has number `i`
-pub download_at : (i number k : ℕ) (ds : List Download) → number ≡ i + k → download_from i number ds ≡ slice_get ds k
-download_at i number k [] e = refl
-download_at i number zero (d ∷ ds) e =
-    let t : (i == number) ≡ true = eq-eqb i number (omega (arith, e)) in
-    ap (λ b. cond b (Some d) (download_from (i + 1) number ds)) t
-download_at i number (suc k) (d ∷ ds) e =
-    let t : (i == number) ≡ false = grind (arith, nat_tests) in
-    ap (λ b. cond b (Some d) (download_from (i + 1) number ds)) t ∙ download_at (i + 1) number k ds (omega (arith, e))
-
--- the element borrowed from a list
-pub looked_up : {A : Type 0} (xs : List A) (i : ℕ) (r : Option (Bor A)) → is_some r ≡ nat_lt i (length xs)
-    → IfSome r (λ y. y.now ≡ get_or xs i y.now) → option_copied r ≡ slice_get xs i
-looked_up xs i None e h = let l : length xs ≤ i = grind (arith, nat_tests) in sym (slice_get_past xs i l)
-looked_up xs i (Some y) e h = let l : i < length xs = grind (arith, nat_tests) in sym (slice_get_read xs (length xs) i y.now refl l h)
 
 -- ---- what a driver holds
 

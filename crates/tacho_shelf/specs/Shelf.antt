@@ -1,5 +1,5 @@
 -- Private to tacho_shelf: What the functions of a shelf do to its drivers.
-use Rattle.std.specs.Prelude.{◌≡◌, ℕ, ◌+◌, ◌<◌, ◌≤◌, false, List, [], ◌∷◌, ◌++◌, length, Option, None, Some, Result, Ok, Err, MatchResult, OnErr, slice_get}
+use Rattle.std.specs.Prelude.{◌≡◌, ℕ, zero, suc, ◌<◌, ◌≤◌, false, List, [], ◌∷◌, ◌++◌, length, Option, None, Some, Result, Ok, Err, MatchResult, OnErr, slice_get}
 use Rattle.tacho_time.specs.OrMemory.{OrMemory}
 use Rattle.tacho_time.specs.declared.span.Span.{Span}
 use Rattle.tacho_time.specs.Spans.{Gives, Conflicts}
@@ -9,7 +9,7 @@ use Rattle.tacho_state.specs.declared.fault.StoreFault.{StoreFault}
 use Rattle.tacho_state.specs.declared.fault.StoreFault.TheVariants.{Memory, Contradiction, Card}
 use Rattle.tacho_state.specs.Content.{FileTells}
 use Rattle.tacho_state.specs.Registration.{Registration}
-use Rattle.tacho_state.specs.State.{Download, Entry, Driver, State, given_spans, entered_spans}
+use Rattle.tacho_state.specs.State.{Download, Entry, Driver, State, entry_from, given_spans, entered_spans}
 use Rattle.tacho_state.specs.Distinct.{HasNot}
 use Rattle.tacho_state.specs.Steps.{Own, most_records, refusal_turn, turn_of, import_own, import_step}
 use Rattle.tacho_state.specs.Acts.{IsOfNoFile}
@@ -45,13 +45,14 @@ pub record IsOwnStep {A B : Type 0} (view : A → B) (own : Own B) (old new : Dr
 abbrev pub IsLeast : Option ℕ → StoreFault → Type 0
 IsLeast least fault = OrMemory Memory fault ((m : ℕ) × (fault ≡ Contradiction m) × (least ≡ Some m))
 
--- the entry with this number is at this place, and isn't withdrawn
-abbrev pub IsEnteredAt : List Entry → ℕ → ℕ → Type 0
-IsEnteredAt entries number i = (number ≡ 1 + i) × ((e : Entry) × (slice_get entries i ≡ Some e) × (e.withdrawn ≡ false))
+-- the record with this number, of which the first has number 1
+abbrev pub numbered : {A : Type 0} → ℕ → List A → Option A
+numbered zero records = None
+numbered (suc i) records = slice_get records i
 
 -- there is an entry with this number, which isn't withdrawn
 abbrev pub IsEntered : List Entry → ℕ → Type 0
-IsEntered entries number = (i : ℕ) × IsEnteredAt entries number i
+IsEntered entries number = (e : Entry) × (entry_from 1 number entries ≡ Some e) × (e.withdrawn ≡ false)
 
 -- so there is for each number from `first` to `last`
 abbrev pub AreEntered : List Entry → ℕ → ℕ → Type 0

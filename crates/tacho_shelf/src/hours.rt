@@ -10,8 +10,8 @@ use tacho_time::{Mark, Span};
 /// Hours that were entered. Withdrawn hours stay listed, and give nothing.
 #[derive(Drop)]
 pub(crate) struct Hours {
-    line: EntryLine,
-    withdrawn: bool,
+    pub(crate) line: EntryLine,
+    pub(crate) withdrawn: bool,
 }
 
 impl Model for Hours {
@@ -19,7 +19,14 @@ impl Model for Hours {
 
     ghost Value = { Entry };
 
-    ghost view = { λ h. record { start = h.line.start; past = h.line.past; activity = h.line.activity; author = h.line.author; note = h.line.note; withdrawn = h.withdrawn } };
+    ghost view = { λ h. record {
+      start = h.line.start;
+      past = h.line.past;
+      activity = h.line.activity;
+      author = h.line.author;
+      note = h.line.note;
+      withdrawn = h.withdrawn;
+    } };
 }
 
 impl Hours {
@@ -51,20 +58,6 @@ impl Hours {
         }
     }
 
-    /// Returns the line that was entered.
-    pub(crate) fn line(&self) -> &EntryLine
-        ensures { result.now ≡ record { start = self.now.start; past = self.now.past; activity = self.now.activity; author = self.now.author; note = self.now.note } }
-    {
-        &self.line
-    }
-
-    /// True if the hours are withdrawn.
-    pub(crate) fn is_withdrawn(&self) -> bool
-        ensures { result ≡ self.now.withdrawn }
-    {
-        self.withdrawn
-    }
-
     /// Withdraws the hours.
     pub(crate) fn withdraw(&mut self)
         ensures { self.new ≡ record self.old { withdrawn = true } }
@@ -89,7 +82,7 @@ pub(crate) fn add_spans(spans: &mut Vec<Span>, entries: &[Hours]) -> Result<(), 
     ensures { OnOk result (spans.new.items ≡ spans.old.items ++ entered_spans entries.now) }
 {
     for hours in entries {
-        if !hours.is_withdrawn() {
+        if !hours.withdrawn {
             spans.push(hours.span())?;
         }
     }

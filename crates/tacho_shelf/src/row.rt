@@ -3,7 +3,8 @@ ghost use Rattle.tacho_time.specs.OrMemory.{OrMemory};
 ghost use Rattle.tacho_time.specs.Spans.{Gives, IsCanonicalOf, Conflicts};
 ghost use Rattle.tacho_state.specs.Acts.{IsOfNoFile};
 ghost use Rattle.tacho_state.specs.State.{driver_of, driver_with_key, holding};
-ghost use Rattle.tacho_shelf.specs.Shelf.{IsIndexOf};
+ghost use Rattle.std.specs.Option.{option_copied};
+ghost use Rattle.tacho_shelf.specs.Shelf.{IsIndexOf, numbered};
 
 use crate::hours::{Hours, add_spans, hours_of};
 use std::alloc::{AllocError, Global};
@@ -73,28 +74,35 @@ impl Model for Row {
 
     ghost Value = { Registered };
 
-    ghost view = { λ d. record { number = d.number; holder = d.holder.items; key = string_bytes d.key; base = d.base; name = string_bytes d.name; downloads = d.downloads.items; entries = d.entries.items } };
+    ghost view = { λ d. record {
+      number = d.number;
+      holder = d.holder.items;
+      key = string_bytes d.key;
+      base = d.base;
+      name = string_bytes d.name;
+      downloads = d.downloads.items;
+      entries = d.entries.items;
+    } };
 
     ghost invariant = { λ d. AreKept d.downloads.items d.entries.items };
 }
 
 impl Row {
-    ghost use Rattle.std.specs.Prelude.{◌≡◌, ◌⊎◌, ◌*◌, ◌+◌, ◌-◌, ◌<◌, ◌≤◌, ℕ, List, ◌++◌, length, All, None, Ok, Err, bytes_eq, string_bytes, IfOk, IfErr, OnOk, OnSome, OnErr, MatchResult, map};
+    ghost use Rattle.std.specs.Prelude.{◌≡◌, ◌*◌, ◌+◌, ◌-◌, ◌<◌, ◌≤◌, ℕ, ◌++◌, length, All, None, Ok, Err, string_bytes, IfOk, IfErr, OnOk, MatchResult, map};
     ghost use Rattle.std.specs.Option.{option_copied};
     ghost use Rattle.tacho_time.specs.Spans.{Gives, IsCanonical, IsCanonicalOf, Conflicts};
     ghost use Rattle.tacho_line.specs.Line.{first_empty, mark_at};
     ghost use Rattle.tacho_stretches.specs.Stretches.{AreStretches, judged_of};
     ghost use Rattle.tacho_state.specs.Batch.{IsEntryLine, batch_of};
     ghost use Rattle.tacho_state.specs.Least.{least_conflict, is_within};
-    ghost use Rattle.tacho_state.specs.State.{IsDownloaded, Held, AreFull, given_spans, held_mark, held_spans, download_from, with_batch};
-    ghost use Rattle.tacho_state.specs.Steps.{import_own, enter_own, withdraw_own, withdraw_from, rebase_own, rekey_own, rename_own, most_records, numbered_from};
-    ghost use Rattle.tacho_state.specs.Limits.{next_number};
+    ghost use Rattle.tacho_state.specs.State.{Held, given_spans, held_mark, held_spans, download_from};
+    ghost use Rattle.tacho_state.specs.Steps.{import_own, enter_own, withdraw_own, withdraw_from, rebase_own, rekey_own, rename_own, numbered_from};
     ghost use Rattle.tacho_state.specs.Numbers.{part_number};
     ghost use Rattle.tacho_state.specs.Acts.{IsOfNoFile};
     ghost use Rattle.tacho_state.specs.declared.imported.Imported.TheVariants.{Repeated};
     ghost use Rattle.tacho_state.specs.Files.{listed_from, told_file};
     ghost use Rattle.tacho_state.specs.Summaries.{summary_of, told_summary};
-    ghost use Rattle.tacho_shelf.specs.Shelf.{IsStepFault, IsOwnStep, IsLeast, IsEnteredAt, IsEntered, AreEntered, AreKept, new_driver};
+    ghost use Rattle.tacho_shelf.specs.Shelf.{IsOwnStep, IsLeast, IsEntered, AreEntered, AreKept, new_driver};
 
     /// Makes a driver who is registered now.
     pub(crate) fn new(alloc: Global, driver: &Driver) -> Result<Row, AllocError>
@@ -170,19 +178,12 @@ impl Row {
         })
     }
 
-    /// Returns the driver's number.
-    pub(crate) fn number(&self) -> u32
-        ensures { result ≡ self.now.number }
-    {
-        self.number
-    }
-
     /// Returns the driver's download with this number.
+    #[tactic(auto, using(crate::proofs::PlaceLemmas::download_numbered))]
     pub(crate) fn download(&self, number: u32) -> Option<&Download>
         ensures { option_copied result ≡ download_from 1 number self.now.downloads }
     {
-        let place = number.checked_sub(1)?;
-        self.downloads.get(place as usize)
+        numbered(&self.downloads, number)
     }
 
     /// Lists the driver's card files ordered by number.
@@ -216,7 +217,8 @@ impl Row {
     /// Fails with the least minute at which the spans contradict what the driver holds, or each other: S6.
     fn check(&self, alloc: Global, spans: &[Span]) -> Result<(), StoreFault>
         requires { first_empty spans.now ≡ None }
-        ensures told { MatchResult result (λ _. least_conflict (held_spans self.now ++ spans.now) ≡ None) (IsLeast (least_conflict (held_spans self.now ++ spans.now))) }
+        ensures told { MatchResult result (λ _. least_conflict (held_spans self.now ++ spans.now) ≡ None)
+            (IsLeast (least_conflict (held_spans self.now ++ spans.now))) }
         ensures agreed { OnOk result ((m : ℕ) → ¬ (Conflicts (Gives (held_spans self.now ++ spans.now)) m)) }
         ensures of_no_file { IsOfNoFile result }
     {
@@ -280,21 +282,19 @@ impl Row {
         Ok(Entered { first, count })
     }
 
-    /// Returns the place of an entry, if it can be withdrawn: S7, S8.
-    fn entered_place(&self, number: u32) -> Result<usize, StoreFault>
-        ensures told { MatchResult result (IsEnteredAt self.now.entries number) (λ fault. withdraw_own number self.now ≡ Err fault) }
+    /// Fails if an entry can't be withdrawn: S7, S8.
+    #[tactic(auto, using(crate::proofs::PlaceLemmas::entry_numbered))]
+    fn check_entry(&self, number: u32) -> Result<(), StoreFault>
+        ensures told { MatchResult result (λ _. IsEntered self.now.entries number) (λ fault. withdraw_own number self.now ≡ Err fault) }
         ensures of_no_file { IsOfNoFile result }
     {
-        let Some(place) = number.checked_sub(1) else {
+        let Some(hours) = numbered(&self.entries, number) else {
             return Err(StoreFault::UnknownEntry);
         };
-        let Some(hours) = self.entries.get(place as usize) else {
-            return Err(StoreFault::UnknownEntry);
-        };
-        if hours.is_withdrawn() {
+        if hours.withdrawn {
             return Err(StoreFault::AlreadyWithdrawn);
         }
-        Ok(place as usize)
+        Ok(())
     }
 
     /// Fails if an entry from number `first` to `last` can't be withdrawn, with the fault of the least such number: S7, S8.
@@ -305,7 +305,7 @@ impl Row {
         ensures of_no_file { IsOfNoFile result }
     {
         for number in first..=last {
-            if let Err(fault) = self.entered_place(number) {
+            if let Err(fault) = self.check_entry(number) {
                 return Err(fault);
             }
         }
@@ -333,8 +333,8 @@ impl Row {
         }
     }
 
-    /// Withdraws the entries from number `first` to `last`, all of them or none: S7, S8. All are checked before the first is marked, so that a
-    /// refusal changes nothing.
+    /// Withdraws the entries from number `first` to `last`, all of them or none: S7, S8. All are checked before the first is marked, so
+    /// that a refusal changes nothing.
     pub(crate) fn withdraw(&mut self, first: u32, last: u32) -> Result<(), StoreFault>
         requires { first ≤ last }
         ensures { IsOwnStep (λ _. tt) (withdraw_from first (last + 1 - first)) self.old self.new result }
@@ -355,19 +355,12 @@ impl Row {
         for hours in &self.entries {
             entries.push(Entry {
                 number,
-                line: hours.line().copy(alloc)?,
-                withdrawn: hours.is_withdrawn(),
+                line: hours.line.copy(alloc)?,
+                withdrawn: hours.withdrawn,
             })?;
             number += 1;
         }
         Ok(entries)
-    }
-
-    /// True if the driver's card has this holder.
-    pub(crate) fn has_holder(&self, holder: &[u8]) -> bool
-        ensures { result ≡ bytes_eq self.now.holder holder.now }
-    {
-        self.holder.as_slice() == holder
     }
 
     /// Sets the day from which the driver is examined: S9.
@@ -396,6 +389,14 @@ impl Row {
         self.name = String::from_str(alloc, name)?;
         Ok(())
     }
+}
+
+/// Returns the record with this number. Numbers begin at 1.
+fn numbered<T>(records: &[T], number: u32) -> Option<&T>
+    ensures { option_copied result ≡ numbered number records.now }
+{
+    let place = number.checked_sub(1)?;
+    records.get(place as usize)
 }
 
 /// Makes the line of spans that give no minute two marks.

@@ -115,7 +115,8 @@ impl Shelf {
         ensures { owner key.now self.now ≡ Ok result }
     {
         let place = place_of_key(&self.drivers, key)?;
-        Some(self.drivers[place].number())
+        let row = &self.drivers[place];
+        Some(row.number)
     }
 
     /// Returns the place of the card's owner: for the office the driver with this holder, for a driver the caller, if they have this
@@ -129,7 +130,8 @@ impl Shelf {
             Caller::Office => Ok(place_of_holder(&self.drivers, holder).ok_or(NoDriver)?),
             Caller::Driver(number) => {
                 let place = self.place(number)?;
-                if !self.drivers[place].has_holder(holder) {
+                let row = &self.drivers[place];
+                if row.holder.as_slice() != holder {
                     return Err(StoreFault::NotYourCard);
                 }
                 Ok(place)

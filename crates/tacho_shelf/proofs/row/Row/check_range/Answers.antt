@@ -10,12 +10,12 @@ returns-in-Err-clause-told c =
 
 pub loop-number-preserved : goal.loop-number-preserved
 loop-number-preserved c =
-    one_checked c.args.self.now.entries c.args.first c.loop-number.number c.in_default.field-0 c.loop-number.invariant c.in_default.ensures.told
+    one_checked c.args.self.now.entries c.args.first c.loop-number.number c.loop-number.invariant c.in_default.ensures.told
 
 pub returns-clause-told : goal.returns-clause-told
 returns-clause-told c = elim c.loop-number-test.branch [
   | else-loop-number-test w ↦ λ i low high. c.loop-number.invariant i low (omega (arith, w.loop-number-test.false, high))
   | then-loop-number-test+in_default+else-number-last w ↦ λ i low high.
-      one_checked c.args.self.now.entries c.args.first c.loop-number.number w.in_default.field-0 c.loop-number.invariant w.in_default.ensures.told
+      one_checked c.args.self.now.entries c.args.first c.loop-number.number c.loop-number.invariant w.in_default.ensures.told
       i low (omega (arith, high))
 ]

@@ -2,16 +2,17 @@ use Rattle.std.proofs.Common.{ℕ, ◌≡◌, ◌∙◌, ◌++◌, List, Some, l
 use Rattle.tacho_time.specs.declared.span.Span.{Span}
 use Rattle.tacho_time.specs.Spans.{Gives, Conflicts}
 use Rattle.tacho_line.specs.Line.{first_empty}
+use Rattle.tacho_state.specs.Batch.{batch_of}
 use Rattle.tacho_state.specs.Limits.{next_number}
-use Rattle.tacho_state.specs.State.{Driver, Entry, AreFull, entered_spans, held_spans}
+use Rattle.tacho_state.specs.State.{Driver, Entry, entered_spans, held_spans}
 use Rattle.tacho_shelf.specs.Shelf.{AreKept}
-use Rattle.tacho_shelf.proofs.EntryLemmas.{full_batch, no_empty_entry, kept_batch, room_left}
+use Rattle.tacho_shelf.proofs.KeptLemmas.{kept_batch, none_empty_line, room_left}
 use Rattle.tacho_shelf.proofs.row.Row.enter.Goals as goal
 
 pub check-requires : goal.check-requires
 check-requires c =
-    let all : c.deref-2.result.now ≡ entered_spans c.in_ok-batch.batch.items = search rules in
-    ap first_empty all ∙ no_empty_entry c.in_ok-batch.batch.items (subst AreFull (sym c.in_ok-batch.ensures) (full_batch c.args.lines.now c.requires))
+    let all : c.deref-2.result.now ≡ entered_spans (batch_of c.args.lines.now) = search rules in
+    ap first_empty all ∙ none_empty_line c.args.lines.now c.requires
 
 pub invariant_of-self-2 : goal.invariant_of-self-2
 invariant_of-self-2 c =

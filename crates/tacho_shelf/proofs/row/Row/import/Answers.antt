@@ -5,9 +5,8 @@ use Rattle.tacho_state.specs.Limits.{next_number}
 use Rattle.tacho_state.specs.State.{Download, Driver, held_spans}
 use Rattle.tacho_state.specs.Numbers.{part_number}
 use Rattle.tacho_shelf.specs.Shelf.{AreKept}
-use Rattle.tacho_shelf.proofs.EntryLemmas.{room_left}
+use Rattle.tacho_shelf.proofs.KeptLemmas.{kept_download, room_left}
 use Rattle.tacho_shelf.proofs.GainLemmas.{none_empty}
-use Rattle.tacho_shelf.proofs.ImportLemmas.{kept_download}
 use Rattle.tacho_shelf.proofs.row.Row.import.Goals as goal
 
 pub has_given-requires : goal.has_given-requires
