@@ -24,23 +24,10 @@ use Rattle.tacho_tables.specs.Schema as made
 use Rattle.tacho_tables.specs.declared.table.TableName.{TableName}
 use Rattle.tacho_tables.specs.declared.table.TableName.TheVariants.{Drivers, Downloads, CardSpans, EntryRows, Held}
 use Rattle.tacho_tables.specs.Readable.{is_number, is_own, own_rows, stored_rows, AreNumbered}
-use Rattle.sqlite_value.specs.Order.{value_cmp}
-use Rattle.sqlite_value.proofs.OrderLemmas.{value_cmp-Int}
-use Rattle.sqlite_sql.specs.Ops.{binary, is_true, from_truth}
-use Rattle.sqlite_sql.specs.declared.ops.BinaryOp.TheVariants.{Compare}
-use Rattle.sqlite_sql.specs.declared.ops.CompareOp.TheVariants.{Eq}
-use Rattle.std.specs.Ordering.{is_eq}
+use Rattle.tacho_tables.proofs.AskLemmas.{int_test}
 use Rattle.tacho_tables.proofs.UniqueLemmas.{HasDriver, rows_pass, downloads_at, card_spans_at, held_at, entry_place, entries_at, downloads_have, card_spans_have, entries_have, held_have}
 use Rattle.tacho_check.proofs.SpreadLemmas.{has_unmapped}
 use Rattle.tacho_check.proofs.TypeLemmas.{column_after}
-
-test_is : (b : Bool) → is_true (from_truth (Some b)) ≡ b
-test_is true = refl
-test_is false = refl
-
-int_test : (m n : ℤ) → is_true (binary (Compare Eq Binary) (Int m) (Int n)) ≡ int_eq m n
-unfolding binary
-int_test m n = test_is (is_eq (value_cmp (Int m) (Int n))) ∙ ap is_eq (value_cmp-Int m n)
 
 -- the reference leads to the number of a row of `drivers`
 key_is : (layout : Layout) → parent_key (archive_schema layout).tables made.to_driver ≡ Some (1, 0 ∷ [], plain)
