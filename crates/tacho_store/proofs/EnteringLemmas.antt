@@ -12,7 +12,7 @@ use Rattle.tacho_time.specs.declared.span.Mark.{Mark}
 use Rattle.tacho_time.specs.Spans.{Gives, IsCanonicalOf}
 use Rattle.tacho_line.specs.Line.{empty_from, first_empty, AreGains}
 use Rattle.tacho_state.specs.declared.fault.StoreFault.{StoreFault}
-use Rattle.tacho_state.specs.declared.fault.StoreFault.TheVariants.{Memory, UnknownDriver, Full}
+use Rattle.tacho_state.specs.declared.fault.StoreFault.TheVariants.{Memory, Full}
 use Rattle.tacho_state.specs.Batch.{Hours, IsEntryLine, AreHoursInOrder, IsBatch, entry_of, batch_of}
 use Rattle.tacho_state.specs.Disjoint.{AreInRange, near}
 use Rattle.tacho_state.specs.Limits.{next_number}
@@ -230,10 +230,6 @@ module _ (db : Trees) (s : State) (n : ℕ) (d : Driver) (lines : List Hours) (g
       (subst (λ (x : ℕ). HasTables next (tables_after_batch n x (rows_of_entries n first all) (map (row_of n) helds) t)) count_is (written t stand)))))
 
 -- ---- the driver's step
-
--- an unknown driver: S4
-pub nobody_enters : (n : ℕ) (s : State) (batch : List Entry) → driver_of n s ≡ None → (enter_step n batch s).answer ≡ Err UnknownDriver
-nobody_enters n s batch none = rw none refl
 
 -- the step is that of the driver
 pub enters : (n : ℕ) (s : State) (batch : List Entry) (d : Driver) → driver_of n s ≡ Some d

@@ -1,5 +1,5 @@
 -- The tables after an import represent the state after it.
-use Rattle.std.proofs.Common.{◌≡◌, ◌≢◌, ℕ, ◌+◌, ◌==◌, true, cond, List, [], ◌∷◌, ◌++◌, Some, Ok, length, map, refl, sym, ap, ◌∙◌, subst}
+use Rattle.std.proofs.Common.{◌≡◌, ◌≢◌, ℕ, ◌+◌, List, [], ◌∷◌, ◌++◌, Some, Ok, length, map, refl, sym, ap, ◌∙◌, subst}
 use Rattle.tacho_time.specs.declared.span.Span.{Span}
 use Rattle.tacho_time.specs.Spans.{Gives, IsCanonicalOf}
 use Rattle.tacho_line.specs.Line.{AreGains}
@@ -10,7 +10,6 @@ use Rattle.tacho_state.specs.Disjoint.{Keeps, near, AreInRange}
 use Rattle.tacho_state.specs.State.{Download, Driver, State, IsDownloaded, Held, driver_of, put, with_download}
 use Rattle.tacho_state.specs.Steps.{Content}
 use Rattle.tacho_state.proofs.GainLemmas.{download_kept}
-use Rattle.tacho_state.proofs.EqualLemmas.{eq_not, eq_self}
 use Rattle.tacho_tables.specs.Rows.{DriverRow, DownloadRow}
 use Rattle.tacho_tables.specs.Tables.{Tables, with_downloads}
 use Rattle.tacho_reading.specs.Standing.{driver_columns, spans_of, RowsRepresent, TablesRepresent}

@@ -2,9 +2,7 @@ mod RegistrationTablesLemmas
 mod ImportTablesLemmas
 mod WithdrawalTablesLemmas
 mod RegistrationLemmas
-mod BaseLemmas
-mod RekeyLemmas
-mod RenameLemmas
+mod OwnLemmas
 mod WithdrawnLemmas
 mod NewsLemmas
 mod OthersLemmas

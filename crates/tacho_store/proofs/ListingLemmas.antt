@@ -1,5 +1,5 @@
 -- The list of a driver's card files: what one file's row says of it, and the list after each file that is read.
-use Rattle.std.proofs.Common.{◌≡◌, ◌≢◌, ◌∙◌, inl, inr, ℕ, ◌+◌, zero, suc, arith, List, [], ◌∷◌, ◌++◌, Bool, true, false, cond, ◌≤◌, ◌-◌, Vec, Global, None, Some, Result, Ok, Err, IfOk, refl, sym, ap, ap₂, subst, map, drop, length, filter}
+use Rattle.std.proofs.Common.{◌≡◌, ◌≢◌, ◌∙◌, inl, inr, ℕ, ◌+◌, zero, suc, arith, List, [], ◌∷◌, ◌++◌, Bool, true, false, cond, ◌≤◌, ◌-◌, Vec, Global, Some, Result, Ok, Err, IfOk, sym, ap, ap₂, subst, map, drop, length, filter}
 use Rattle.std.specs.Prelude.{◌==◌, Contains}
 use Rattle.std.specs.Borrow.{MutBor}
 use Rattle.std.proofs.lemmas.List.{append-nil, append_assoc, map-append, drop_all}
@@ -9,7 +9,6 @@ use Rattle.sqlite.specs.Tree.{Trees}
 use Rattle.tacho_time.specs.OrMemory.{OrMemory}
 use Rattle.tacho_card.specs.declared.fault.CardFault.{CardFault}
 use Rattle.tacho_card.specs.declared.file.Part.{Part}
-use Rattle.tacho_card.specs.declared.file.Part.TheVariants as part
 use Rattle.tacho_state.specs.declared.fault.StoreFault.{StoreFault}
 use Rattle.tacho_state.specs.declared.fault.StoreFault.TheVariants.{Card, Memory}
 use Rattle.tacho_state.specs.declared.file.FileSummary.{FileSummary}

@@ -3,7 +3,7 @@ use Rattle.std.proofs.Common.{◌≡◌, ℕ, List, [], ◌∷◌, ◌++◌, tru
 use Rattle.std.specs.Prelude.{is_some}
 use Rattle.sqlite.specs.Tree.{Trees}
 use Rattle.tacho_state.specs.declared.fault.StoreFault.TheVariants.{NotMonday}
-use Rattle.tacho_state.specs.State.{Driver, State, driver_of, driver_with_key, holding}
+use Rattle.tacho_state.specs.State.{Driver, State}
 use Rattle.tacho_state.specs.Steps.{register_step, is_monday}
 use Rattle.tacho_tables.specs.Tables.{Tables, HasTables}
 use Rattle.tacho_reading.specs.Finding.{IsOfDriver}

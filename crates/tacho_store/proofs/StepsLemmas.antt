@@ -1,5 +1,5 @@
 -- How a step is composed of what its tables follow and of what earlier readings found.
-use Rattle.std.proofs.Common.{◌≡◌, ℕ, Result, Ok, Err, OnOk, sym, subst}
+use Rattle.std.proofs.Common.{◌≡◌, ℕ, Result, Ok, Err, OnOk, sym, ap, subst}
 use Rattle.std.specs.Borrow.{MutBor}
 use Rattle.std.specs.Prelude.{IsErr, IsErrAnd, MatchResult}
 use Rattle.std.proofs.lemmas.Result.{on_ok_weaker}
@@ -10,18 +10,18 @@ use Rattle.sqlite.specs.Held.{Held, state}
 use Rattle.sqlite.specs.Tree.{Trees}
 use Rattle.tacho_tables.specs.declared.fault.TableFault.{TableFault}
 use Rattle.tacho_tables.specs.Tables.{HasTables, IsArchive, Tables}
-use Rattle.sqlite.proofs.Callers.{unchanged_then}
 use Rattle.tacho_state.specs.declared.fault.StoreFault.{StoreFault}
 use Rattle.tacho_state.specs.Acts.{Answers, IsOfNoFile}
 use Rattle.tacho_state.specs.State.{State, driver_of}
-use Rattle.tacho_state.specs.Steps.{Turn}
+use Rattle.tacho_state.specs.Steps.{Own, Turn, own_turn}
 use Rattle.tacho_tables.specs.Calls.{Changes, Stays}
 use Rattle.tacho_tables.proofs.CallLemmas.{stays_then}
 use Rattle.tacho_tables.proofs.Inside.{keeps_then}
 use Rattle.tacho_reading.specs.Calls.{Goes, Steps, StepsGiven, Tells}
 use Rattle.tacho_reading.specs.Faults.{fault_of_tables}
-use Rattle.tacho_reading.specs.Finding.{IsFindingFault}
+use Rattle.tacho_reading.specs.Finding.{IsDriver, IsFindingFault}
 use Rattle.tacho_reading.specs.Standing.{Represents, KeepsRowsOf, Follows}
+use Rattle.tacho_reading.proofs.LookUpLemmas.{unknown_refuses}
 use Rattle.tacho_reading.proofs.MappedLemmas.{answers_mapped, on_ok_mapped}
 use Rattle.tacho_reading.proofs.SeenLemmas.{still_archive, still_seen}
 use Rattle.tacho_reading.proofs.TellLemmas.{answers_handed, no_file_mapped}
@@ -39,11 +39,6 @@ still_follows old new s same schema stands = (
   subst (λ (d : Database). Follows old.now.trees d.trees s s) (sym same.0.now_is) (unchanged_follows old.now.trees s stands),
 )
 
--- tables that follow those of an unchanged connection follow the tables before it
-pub follows_then : (old mid : Sqlite) (next : Trees) (s after : State) → IsUnchanged old mid → Follows mid.now.trees next s after
-    → Follows old.now.trees next s after
-follows_then old mid next s after same = subst (λ (d : Database). Follows d.trees next s after) same.0.now_is
-
 -- ---- a call after a reading that answered
 
 -- if neither the reading nor the call commits, nothing is committed
@@ -59,13 +54,6 @@ pub keeps_changed : (x y z : Sqlite) → (HasCleanDisk z → HasCleanDisk y) →
     → HasCleanDisk z → IsArchive x.now → KeepsCommit x z
 keeps_changed x y z before first archive more clean is =
     keeps_then x y z (first (before clean)) (more clean (archive (before clean) is))
-
--- if two readings in sequence change nothing, nothing has changed
-pub unchanged_after : (x y z : Sqlite) → (HasCleanDisk z → HasCleanDisk y) → (HasCleanDisk y → IsArchive x.now → IsUnchanged x y)
-    → (HasCleanDisk z → IsArchive y.now → IsUnchanged y z) → HasCleanDisk z → IsArchive x.now → IsUnchanged x z
-unchanged_after x y z before same more clean is =
-    let first = same (before clean) is in
-    unchanged_then x y z first (more clean (still_archive x y first is))
 
 -- ---- steps
 
@@ -227,6 +215,13 @@ steps_refused {result = result} view step h e more =
       made = λ clean schema s stands. no_value result _ e.0;
       others = λ clean schema s stands n is. no_value result _ e.0;
     }
+
+-- S4 is the answer of a step on one driver
+pub unknown_steps : {S : Type 0} {g : Ghosts S} {old new : MutBor (Held S)} {A B C : Type 0} {result : Result A StoreFault} {fault : StoreFault}
+    (view : A → B) (n : ℕ) (f : Own B) → Tells g old new {A = C} (Err fault) (λ db s. IsDriver s n (Err fault))
+    → IsErr result × IsErrAnd result (λ found. found ≡ fault) → Steps g old new result view (λ s. own_turn f s (driver_of n s))
+unknown_steps view n f h e = steps_refused view (λ s. own_turn f s (driver_of n s)) h e
+    (λ db s stands. unknown_refuses n s _ _ (λ none. ap (λ o. (own_turn f s o).answer) none))
 
 -- ---- a step that is undone
 

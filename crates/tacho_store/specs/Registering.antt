@@ -1,9 +1,6 @@
 -- Private to tacho_store: What a registration consists of: nobody has the new driver's number, key or holder.
-use Rattle.std.specs.Prelude.{◌≡◌, ℕ, List, None, Result, Ok, Err}
-use Rattle.tacho_state.specs.declared.fault.StoreFault.{StoreFault}
+use Rattle.std.specs.Prelude.{◌≡◌, ℕ, List, None}
 use Rattle.tacho_state.specs.State.{State, driver_of, driver_with_key, holding}
-use Rattle.tacho_state.specs.Steps.{register_step}
-use Rattle.tacho_reading.specs.Finding.{IsFindingFault}
 
 -- nobody has the number, the key or the holder
 pub record AreFree (s : State) (number : ℕ) (key holder : List ℕ) : Type 0 where

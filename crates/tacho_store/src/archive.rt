@@ -5,13 +5,10 @@ ghost use Rattle.tacho_state.specs.State.{State};
 ghost use Rattle.tacho_reading.specs.Kept.{IsBlank, SeesWhileOpen, LeavesOneOf, IsSame, HasGivenUp};
 ghost use Rattle.tacho_store.specs.Opening.{Makes, CarriesOver, IsMade, IsUnmade, TellsSchema, IsChecked, IsCarried, IsEmptyArchive, IsAdopted, IsLeftAlone, IsOld, IsOpeningFault, IsMigrated, IsNotMigrated};
 
-use crate::base::rebase;
 use crate::entering::enter;
 use crate::files::files;
 use crate::import::import;
-use crate::registration::register;
-use crate::rekey::rekey;
-use crate::rename::rename;
+use crate::own::{rebase, register, rekey, rename};
 use crate::withdrawal::withdraw;
 use sqlite::{Alter, Connection, MemStore, Transaction};
 use std::alloc::Global;

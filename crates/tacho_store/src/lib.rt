@@ -2,15 +2,12 @@
 #![tactic(auto)]
 
 mod archive;
-mod base;
 mod entering;
 mod files;
 mod import;
 pub mod laws;
 mod news;
-mod registration;
-mod rekey;
-mod rename;
+mod own;
 mod withdrawal;
 
 pub use archive::{Archive, open_memory};

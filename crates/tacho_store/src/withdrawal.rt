@@ -1,19 +1,16 @@
-ghost use Rattle.std.specs.Prelude.{◌≡◌, ◌≤◌, ◌++◌, map, All, Err, filter, not, false, IfOk, IfErr};
-ghost use Rattle.sqlite.specs.State.{HasCleanDisk};
-ghost use Rattle.sqlite.specs.Held.{state};
+ghost use Rattle.std.specs.Prelude.{◌≡◌, ◌≤◌, ◌++◌, map, Err, filter, not, false, IfOk, IfErr};
 ghost use Rattle.tacho_time.specs.OrMemory.{OrMemory};
 ghost use Rattle.tacho_time.specs.Spans.{Gives, IsCanonicalOf};
 ghost use Rattle.tacho_line.specs.Line.{IsWithin};
-ghost use Rattle.tacho_state.specs.Disjoint.{outside};
 ghost use Rattle.tacho_state.specs.Steps.{withdraw_range_step, withdraw_step};
 ghost use Rattle.tacho_tables.specs.Calls.{Finds};
-ghost use Rattle.tacho_tables.specs.Tables.{Tables, HasTables, is_row_near, row_of, IsArchive};
-ghost use Rattle.tacho_reading.specs.Standing.{stored_span, IsFit, HaveNoLine};
+ghost use Rattle.tacho_tables.specs.Tables.{is_row_near, row_of};
+ghost use Rattle.tacho_reading.specs.Standing.{stored_span, HaveNoLine};
 ghost use Rattle.tacho_reading.specs.Calls.{Tells, Steps, ChangesWhere};
 ghost use Rattle.tacho_state.specs.Acts.{IsOfNoFile};
 ghost use Rattle.tacho_reading.specs.Kept.{ActsOn};
 ghost use Rattle.tacho_reading.specs.Apart.{AreRowsApart, driver_rows};
-ghost use Rattle.tacho_store.specs.Withdrawing.{IsEntry, AreRowsFor, HaveNoRows, AreRenewed, Renews, with_mark};
+ghost use Rattle.tacho_store.specs.Withdrawing.{IsEntry, AreRowsFor, HaveNoRows, AreRenewed, Renews};
 
 use sqlite::{Alter, Connection, Transaction};
 use std::alloc::Global;
@@ -43,21 +40,6 @@ fn entry_with<S: Alter>(
         return Err(StoreFault::AlreadyWithdrawn);
     }
     Ok(entry)
-}
-
-/// The parts of stored rows outside a range that the rows overlap.
-fn parts_outside(
-    alloc: Global,
-    helds: &[StoredSpan],
-    start: Minute,
-    past: Minute,
-) -> Result<Vec<Span>, StoreFault>
-    ensures parts { IfOk result (λ parts. parts.items ≡ outside start past (map stored_span helds.now)) }
-    ensures fault { IfErr result (λ fault. OrMemory StoreFault.Memory fault (fault ≡ StoreFault.Store)) }
-    ensures cause { result ≡ Err StoreFault.Store → ¬ All IsFit helds.now }
-{
-    let spans = spans_of(alloc, helds)?;
-    Ok(outside_of(alloc, &spans, start, past)?)
 }
 
 /// What stored rows of cards and of entries give in a range. A contradiction between two of them is a store failure.
@@ -100,7 +82,8 @@ fn rows_for(
     let Some(end) = minute_of(past) else {
         return Err(StoreFault::Store);
     };
-    let mut spans = parts_outside(alloc, helds, first, end)?;
+    let held_spans = spans_of(alloc, helds)?;
+    let mut spans = outside_of(alloc, &held_spans, first, end)?;
     let inside = given_inside(alloc, cards, others, first, end)?;
     spans.extend_from_slice(&inside)?;
     Ok(stored(alloc, &spans)?)
@@ -125,27 +108,6 @@ fn rows_in_place<S: Alter>(
     let others = entries::kept_near(alloc, tx, driver, start, past).map_err(store_fault)?;
     let helds = rows_near(alloc, tx, SpanTable::Held, driver, start, past).map_err(store_fault)?;
     rows_for(alloc, &cards, &others, &helds, start, past)
-}
-
-/// Marks a driver's entry as withdrawn, and returns the rows that replace those near it.
-fn mark<S: Alter>(
-    alloc: Global,
-    tx: &mut Transaction<'_, S>,
-    driver: u32,
-    number: u32,
-    start: u32,
-    past: u32,
-) -> Result<Vec<StoredSpan>, StoreFault>
-    ensures marked { ChangesWhere S.Store tx.old.conn tx.new.conn result (λ _. Unit {0}) (with_mark driver number) }
-    ensures renewed { HasCleanDisk (state S.Store tx.new.conn.now)
-        → IsArchive (state S.Store tx.old.conn.now).now
-        → IfOk result (λ rows. (t : Tables) → HasTables (state S.Store tx.old.conn.now).now.trees t
-        → AreRowsApart (driver_rows driver t.card_spans) → AreRowsApart (driver_rows driver t.held)
-        → AreRenewed (with_mark driver number t) driver start past rows.items) }
-    ensures fault { IfErr result (λ fault. OrMemory StoreFault.Memory fault (fault ≡ StoreFault.Store)) }
-{
-    entries::withdraw(tx, driver, number).map_err(store_fault)?;
-    rows_in_place(alloc, tx, driver, start, past)
 }
 
 /// Removes a driver's held rows near a range.
@@ -190,7 +152,8 @@ fn withdraw_one<S: Alter>(
     ensures { Renews S.Store driver tx.old.conn tx.new.conn result (withdraw_step driver number) }
 {
     let entry = entry_with(tx, driver, number)?;
-    let rows = mark(alloc, tx, driver, number, entry.start, entry.past)?;
+    entries::withdraw(tx, driver, number).map_err(store_fault)?;
+    let rows = rows_in_place(alloc, tx, driver, entry.start, entry.past)?;
     rewrite(tx, driver, entry.start, entry.past, &rows).map_err(store_fault)
 }
 

@@ -1,14 +1,11 @@
-use Rattle.std.proofs.Common.{rules}
 use Rattle.tacho_state.specs.Batch.{batch_of}
-use Rattle.tacho_reading.proofs.LookUpLemmas.{unknown_refuses}
 use Rattle.tacho_reading.proofs.TellLemmas.{tells_then}
-use Rattle.tacho_store.proofs.StepsLemmas.{steps_refused, steps_told}
-use Rattle.tacho_store.proofs.EnteringLemmas.{batch_refused, nobody_enters, enters}
+use Rattle.tacho_store.proofs.StepsLemmas.{steps_refused, steps_told, unknown_steps}
+use Rattle.tacho_store.proofs.EnteringLemmas.{batch_refused, enters}
 use Rattle.tacho_store.proofs.entering.enter_in.Goals as goal
 
 pub returns-in_err-found-clause-steps : goal.returns-in_err-found-clause-steps
-returns-in_err-found-clause-steps g c = steps_refused _ _ c.in_err-found.ensures c.from_residual.ensures
-    (λ db s stands. unknown_refuses c.args.driver s _ _ (nobody_enters c.args.driver s (batch_of c.args.lines.now)))
+returns-in_err-found-clause-steps g c = unknown_steps _ _ _ c.in_err-found.ensures c.from_residual.ensures
 
 pub returns-in_err-gains-clause-steps : goal.returns-in_err-gains-clause-steps
 returns-in_err-gains-clause-steps g c = steps_refused _ _ (tells_then c.in_ok-found.ensures c.in_err-gains.ensures)

@@ -2,7 +2,7 @@ use Rattle.std.proofs.Common.{◌∙◌, refl, sym}
 use Rattle.tacho_reading.proofs.LookUpLemmas.{given_up, not_found}
 use Rattle.tacho_reading.proofs.TellLemmas.{found_handed, tells_as, tells_then}
 use Rattle.tacho_store.proofs.RegistrationLemmas.{taken}
-use Rattle.tacho_store.proofs.registration.ask_free.Goals as goal
+use Rattle.tacho_store.proofs.own.ask_free.Goals as goal
 
 pub returns-in_err-by_number : goal.returns-in_err-by_number
 returns-in_err-by_number g c = found_handed c.in_err-by_number.ensures c.from_residual.ensures (λ db s stands up. given_up _ _ up)

@@ -1,8 +1,8 @@
 use Rattle.std.proofs.Common.{◌∙◌, refl, sym}
 use Rattle.tacho_reading.proofs.LookUpLemmas.{given_up, unknown_refuses}
 use Rattle.tacho_reading.proofs.TellLemmas.{found_handed, tells_as, tells_then}
-use Rattle.tacho_store.proofs.RekeyLemmas.{owner_is, no_driver}
-use Rattle.tacho_store.proofs.rekey.ask_key.Goals as goal
+use Rattle.tacho_store.proofs.OwnLemmas.{owner_is, no_driver}
+use Rattle.tacho_store.proofs.own.ask_key.Goals as goal
 
 pub returns-in_err-owner : goal.returns-in_err-owner
 returns-in_err-owner g c = found_handed c.in_err-owner.ensures c.from_residual.ensures (λ db s stands up. given_up _ _ up)
@@ -23,10 +23,13 @@ returns-in_err-driver_with g c = found_handed (tells_then c.in_ok-owner.ensures 
 
 pub returns : goal.returns
 returns g c = tells_as (tells_then c.in_ok-owner.ensures c.in_ok-driver_with.ensures) tt (λ db s stands (looked, it). record {
-  found = (it.found.0, record {
-    driver = it.found.1;
-    free = sym (c.is_of_another.ensures _ (owner_is c.args.key.now s c.in_ok-owner.owner (rw c.as_bytes.ensures.value at looked)))
-        ∙ c.if-is_of_another.false;
-  });
+  found = (
+    it.found.0,
+    record {
+      driver = it.found.1;
+      free = sym (c.is_of_another.ensures _ (owner_is c.args.key.now s c.in_ok-owner.owner (rw c.as_bytes.ensures.value at looked)))
+          ∙ c.if-is_of_another.false;
+    },
+  );
   refused = tt;
 })

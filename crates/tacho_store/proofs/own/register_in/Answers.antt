@@ -1,8 +1,7 @@
 use Rattle.std.proofs.Common.{rules, ◌∙◌, sym}
-use Rattle.tacho_reading.proofs.TellLemmas.{tells_as}
 use Rattle.tacho_store.proofs.StepsLemmas.{steps_refused, steps_written}
 use Rattle.tacho_store.proofs.RegistrationLemmas.{no_monday, goes_in, row_added}
-use Rattle.tacho_store.proofs.registration.register_in.Goals as goal
+use Rattle.tacho_store.proofs.own.register_in.Goals as goal
 
 pub returns-in_err-ask_free : goal.returns-in_err-ask_free
 returns-in_err-ask_free g c = steps_refused _ _ c.in_err-ask_free.ensures c.from_residual.ensures (λ db s stands asked. asked.refused)

@@ -1,6 +1,6 @@
 use Rattle.std.proofs.Common.{rules}
 use Rattle.tacho_store.proofs.StepsLemmas.{undone_keeps}
-use Rattle.tacho_store.proofs.rename.rename.Goals as goal
+use Rattle.tacho_store.proofs.own.rekey.Goals as goal
 
 pub returns-in-Err-act_within-act_within-2-clause-acts : goal.returns-in-Err-act_within-act_within-2-clause-acts
 returns-in-Err-act_within-act_within-2-clause-acts g c = record {
