@@ -22,7 +22,8 @@ up_to k P first a b c d Held before = d before
 
 -- each table is `held` or before it
 pub before_last : (k : TableName) → place k ≤ place Held
-before_last k = up_to k (λ j. place j ≤ place Held) (omega arith) (λ _. omega arith) (λ _. omega arith) (λ _. omega arith) (λ _. omega arith)
+before_last k =
+    up_to k (λ j. place j ≤ place Held) (omega arith) (λ _. omega arith) (λ _. omega arith) (λ _. omega arith) (λ _. omega arith)
     k (omega arith)
 
 module _ (rows : TableName → List Row) (n : ℤ) (absent : rows Drivers ≡ []) where
@@ -42,7 +43,8 @@ module _ (rows : TableName → List Row) (n : ℤ) (absent : rows Drivers ≡ []
   first_judged k some a b c = (
     (λ sound. some (no_rows k sound k (omega arith))),
     (λ j before. inl (λ i first. up_to k (λ i. place i < place k → rows i ≡ []) (λ _. absent) (λ _. a) (λ _. b) (λ _. c)
-        (λ _ less. let last = before_last k in absurd (omega (arith, last, less))) i (omega (arith, first, before)) (omega (arith, first, before)))),
+        (λ _ less. let last = before_last k in absurd (omega (arith, last, less)))
+        i (omega (arith, first, before)) (omega (arith, first, before)))),
   )
 
   -- where no table has rows, all are sound

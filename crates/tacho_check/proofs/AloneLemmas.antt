@@ -52,7 +52,8 @@ module _ {S : Type 0} (g : Ghosts S) (old : Held S) (inside read : MutBor (Held 
     sound = subst (λ (h : Held S). IsSound (archive_schema is.layout) (state g h).now.trees) (sym begun) is.sound;
   }
 
-  same_rows : HasCleanDisk (state g new) → IsTrue (state g new).is_open → IsArchive (state g old).now → (state g new).now ≡ (state g old).now
+  same_rows : HasCleanDisk (state g new) → IsTrue (state g new).is_open → IsArchive (state g old).now
+      → (state g new).now ≡ (state g old).now
   same_rows clean open_now is =
       let back_to = (undone (asks.clean clean)).undone (asks.was_open clean open_now) in
       let kept = (reads.keeps (clean_read clean) (archive_inside is)).committed (open_read clean open_now) in

@@ -1,8 +1,8 @@
 -- A check of all drivers, in the order of their numbers.
-use Rattle.std.proofs.Common.{◌≡◌, ◌∙◌, ℕ, zero, suc, ℤ, ◌+◌, ◌-◌, ◌<◌, ◌≤◌, ◌<ℤ◌, ◌≤ℤ◌, inl, inr, true, false, List, [], ◌∷◌, None, Some, take, map, length, Result, Ok, Err, IfOk, refl, sym, ap, subst, arith}
+use Rattle.std.proofs.Common.{◌≡◌, ◌∙◌, ℕ, zero, suc, ℤ, ◌+◌, ◌-◌, ◌<◌, ◌≤◌, ◌<ℤ◌, ◌≤ℤ◌, inl, inr, false, List, [], ◌∷◌, None, Some, take, map, length, refl, sym, ap, subst, arith}
 use Rattle.std.specs.List.{Contains, slice_index_or}
 use Rattle.std.specs.List.Sorted.{IsPermutation, IsSorted}
-use Rattle.std.specs.Ordering.{is_lt, int_cmp, int_eq}
+use Rattle.std.specs.Ordering.{is_lt, int_cmp}
 use Rattle.std.proofs.lemmas.Int.{ints}
 use Rattle.std.proofs.lemmas.List.{take_all}
 use Rattle.std.proofs.lemmas.List.Sorted.{IsPermutation-sym}
@@ -10,9 +10,10 @@ use Rattle.sqlite_value.specs.declared.value.Value.TheVariants.{Int}
 use Rattle.sqlite_value.specs.Order.{Row}
 use Rattle.sqlite_trees.specs.Tree.{Trees}
 use Rattle.sqlite_trees.proofs.ListLemmas.{all-permutation}
+use Rattle.sqlite_keyed.proofs.KeyedLemmas.{same_int}
 use Rattle.sqlite_rules.specs.Lists.{Has}
 use Rattle.sqlite_rules.proofs.ListLemmas.{all_has, all_from, all_more, has_filtered, contains_had}
-use Rattle.sqlite_rules.proofs.ProbeLemmas.{mapped_has}
+use Rattle.sqlite_rules.proofs.ProbeLemmas.{mapped_has, has_mapped}
 use Rattle.tacho_time.proofs.CanonicalLemmas.{lt_or_le}
 use Rattle.tacho_tables.specs.Schema.{Layout}
 use Rattle.tacho_tables.specs.Schema as made
@@ -26,7 +27,6 @@ use Rattle.tacho_check.specs.Judged.{IsJudged}
 use Rattle.tacho_check.specs.Numbers.{number_row, AreAllNumbers}
 use Rattle.tacho_check.proofs.OwnLemmas.{own_sound, sound_own}
 use Rattle.tacho_check.proofs.ParentLemmas.{none_anywhere}
-use Rattle.tacho_check.proofs.SpreadLemmas.{has_unmapped}
 use Rattle.tacho_check.proofs.StateLemmas.{all_represent}
 
 -- ---- numbers in order
@@ -38,7 +38,8 @@ up_then : (a b c : ℤ) → a ≤ℤ b → is_lt (int_cmp c b) ≡ false → a �
 up_then a b c low next = grind (arith, ints)
 
 -- none is above a later one
-later_up : (ns : List ℤ) → IsSorted int_cmp ns → (i n : ℕ) (d : ℤ) → i + n < length ns → slice_index_or ns i d ≤ℤ slice_index_or ns (i + n) d
+later_up : (ns : List ℤ) → IsSorted int_cmp ns → (i n : ℕ) (d : ℤ) → i + n < length ns
+    → slice_index_or ns i d ≤ℤ slice_index_or ns (i + n) d
 later_up ns order i zero d within =
     let same : i ≡ i + 0 = omega arith in
     subst (λ (j : ℕ). slice_index_or ns i d ≤ℤ slice_index_or ns j d) same (up_self (slice_index_or ns i d))
@@ -65,18 +66,20 @@ one_value (x ∷ xs) zero d e within = refl
 one_value (x ∷ xs) (suc i) d e within = one_value xs i d e (omega (arith, within))
 
 -- a number of the list that is below the one at a place stands before it
-stands_before : (ns : List ℤ) → IsSorted int_cmp ns → (i : ℕ) (x : ℤ) → i < length ns → x ≡ slice_index_or ns i x → (m : ℤ) → Has ns m → m <ℤ x
+stands_before : (ns : List ℤ) → IsSorted int_cmp ns → (i : ℕ) (x : ℤ) → i < length ns → x ≡ slice_index_or ns i x → (m : ℤ) → Has ns m
+    → m <ℤ x
     → Has (take i ns) m
 stands_before ns order i x within is m has low = go (contains_had ns m has) where
   go : Contains ns m → Has (take i ns) m
-  go it = elim (lt_or_le it.0 i) [ inl early ↦ taken ns i it.0 m early it.1 (sym it.2) | inr late ↦ absurd (not_both x m (up late) low) ] where
-    up : i ≤ it.0 → x ≤ℤ m
-    up late =
-        let place : i + (it.0 - i) ≡ it.0 = omega (arith, late) in
-        let rise = later_up ns order i (it.0 - i) m (rw place it.1) in
-        let first : x ≡ slice_index_or ns i m = is ∙ one_value ns i x m within in
-        subst (λ (z : ℤ). z ≤ℤ m) (sym first)
-        (subst (λ (z : ℤ). slice_index_or ns i m ≤ℤ z) it.2 (subst (λ (j : ℕ). slice_index_or ns i m ≤ℤ slice_index_or ns j m) place rise))
+  go it =
+      elim (lt_or_le it.0 i) [ inl early ↦ taken ns i it.0 m early it.1 (sym it.2) | inr late ↦ absurd (not_both x m (up late) low) ] where
+        up : i ≤ it.0 → x ≤ℤ m
+        up late =
+            let place : i + (it.0 - i) ≡ it.0 = omega (arith, late) in
+            let rise = later_up ns order i (it.0 - i) m (rw place it.1) in
+            let first : x ≡ slice_index_or ns i m = is ∙ one_value ns i x m within in
+            subst (λ (z : ℤ). z ≤ℤ m) (sym first)
+            (subst (λ (z : ℤ). slice_index_or ns i m ≤ℤ z) it.2 (subst (λ (j : ℕ). slice_index_or ns i m ≤ℤ slice_index_or ns j m) place rise))
 
 -- ---- all drivers
 
@@ -84,20 +87,17 @@ has_permuted : {X : Type 0} (xs ys : List X) (x : X) → IsPermutation xs ys →
 has_permuted xs ys x same has =
     all_has (Has ys) xs x (all-permutation (Has ys) ys xs (IsPermutation-sym xs ys same) (all_from (Has ys) ys (λ e h. h))) has
 
-is_one : (a b : ℤ) → int_eq a b ≡ true → a ≡ b
-is_one a b h = grind (arith, ints)
-
 module _ (layout : Layout) (db : Trees) (ready : IsReadable layout db) where
   -- a driver who has a row in `drivers` has a number of the list
   listed : (ns : List ℤ) → AreAllNumbers (db made.driver_rows) ns → (m : ℤ) (r : Row) → Has (own_rows m (db made.driver_rows)) r → Has ns m
   listed ns all m r has =
       let own = has_filtered (is_own m) (db made.driver_rows) r has in
       let number = ready.numbered.drivers.numbered r own.0 in
-      let same : number.0 ≡ m = is_one number.0 m (sym (ap (is_number m) number.1) ∙ own.1) in
+      let same : number.0 ≡ m = same_int number.0 m (sym (ap (is_number m) number.1) ∙ own.1) in
       let shown : number_shown r ≡ number_row m = ap (λ v. v ∷ []) (number.1 ∙ ap Int same) in
       let there = has_permuted (map number_shown (db made.driver_rows)) (map number_row ns) (number_row m) all.all
       (subst (Has (map number_shown (db made.driver_rows))) shown (mapped_has number_shown (db made.driver_rows) r own.0)) in
-      let one = has_unmapped number_row ns (number_row m) there in
+      let one = has_mapped number_row ns (number_row m) there in
       let alike : m ≡ one.0 = let e = one.2 in cc in
       subst (Has ns) (sym alike) one.1
 
@@ -106,7 +106,8 @@ module _ (layout : Layout) (db : Trees) (ready : IsReadable layout db) where
   absent_sound m none = own_sound layout db Held m (inl (λ j before. none_anywhere layout db ready.sound ready.numbered.drivers m none j))
 
   -- a driver's rows are sound if they are where the driver has a number of the list
-  sound_if : (ns : List ℤ) → AreAllNumbers (db made.driver_rows) ns → (m : ℤ) → (Has ns m → IsSoundAt layout db m Held) → IsSoundAt layout db m Held
+  sound_if : (ns : List ℤ) → AreAllNumbers (db made.driver_rows) ns → (m : ℤ) → (Has ns m → IsSoundAt layout db m Held)
+      → IsSoundAt layout db m Held
   sound_if ns all m each = go (own_rows m (db made.driver_rows)) refl where
     go : (rows : List Row) → own_rows m (db made.driver_rows) ≡ rows → IsSoundAt layout db m Held
     go [] e = absent_sound m e

@@ -131,7 +131,8 @@ module _ (n : ℕ) (holder : List ℕ) (count : ℕ) (own found : List Row) (it 
     rows = subst (λ rows. IsPermutation rows own) (sym (rows_are n 1 ds)) fit.same;
   }
 
-  pub none_fit : AreNumbered {Y = FileRow} (IsParsed ShowsFile IsFile) (λ f. f.number) count found None → AreDownloads n holder count own None
+  pub none_fit : AreNumbered {Y = FileRow} (IsParsed ShowsFile IsFile) (λ f. f.number) count found None
+      → AreDownloads n holder count own None
   none_fit h ds fit = unnumbered (typing n) it count h (files_from 1 ds) (any_all (files_from 1 ds)) (rows_of ds fit)
 
   pub downloads_judged : (files : Vec FileRow Global) → AreNumbered (IsParsed ShowsFile IsFile) (λ f. f.number) count found (Some files)

@@ -62,9 +62,11 @@ entry_in other _ = other
 entry_back : (n : ℕ) (other x : NumberedEntry) → entry_in other (columns_of n x) ≡ x
 unfolding entry_in
 entry_back n other x =
-    ap₂ (λ a w. record x { entry = record x.entry { activity = a; withdrawn = w } }) (activity_back x.entry.activity) (flag_back x.entry.withdrawn)
+    ap₂ (λ a w. record x { entry = record x.entry { activity = a; withdrawn = w } })
+    (activity_back x.entry.activity) (flag_back x.entry.withdrawn)
 
-entry_made : (n : ℕ) (w : Row) → IsOwnRow n made.entry_rows.columns w → (x : NumberedEntry) → ShowsEntry (seven_shown w) x → w ≡ columns_of n x
+entry_made : (n : ℕ) (w : Row) → IsOwnRow n made.entry_rows.columns w → (x : NumberedEntry) → ShowsEntry (seven_shown w) x
+    → w ≡ columns_of n x
 entry_made n w own x shows =
     let is = whole_row None made.entry_rows.columns w 7 own.typed refl (ap (λ v. not (is_null v)) shows.note) in
     let a = own.driver in
@@ -136,7 +138,8 @@ give_one : (b : Bool) (here : Span) (spans rest : List Span) → spans ≡ rest
 give_one true here spans rest same = same
 give_one false here spans rest same = ap (λ xs. here ∷ xs) same
 
-entries_give : (hours : List HoursRow) (xs : List NumberedEntry) → Pairs AreHours hours xs → entered_spans (entries_in xs) ≡ entered_hours hours
+entries_give : (hours : List HoursRow) (xs : List NumberedEntry) → Pairs AreHours hours xs
+    → entered_spans (entries_in xs) ≡ entered_hours hours
 entries_give [] [] h = refl
 entries_give [] (x ∷ xs) h = absurd h
 entries_give (h ∷ hours) [] stands = absurd stands
@@ -157,7 +160,8 @@ module _ (n count : ℕ) (own found : List Row) (it : AreShown n made.entry_rows
     rows = subst (λ rows. IsPermutation rows own) (sym (rows_are n 1 es)) fit.same;
   }
 
-  pub none_fit : AreNumbered {Y = HoursRow} (IsParsed ShowsEntry AreHours) (λ h. h.number) count found None → AreEntries n count own given None
+  pub none_fit : AreNumbered {Y = HoursRow} (IsParsed ShowsEntry AreHours) (λ h. h.number) count found None
+      → AreEntries n count own given None
   none_fit h es fit = unnumbered (typing n) it count h (numbered_from 1 es) (all_within 1 es fit.within) (rows_of es fit)
 
   pub entries_judged : (hours : Vec HoursRow Global) → AreNumbered (IsParsed ShowsEntry AreHours) (λ h. h.number) count found (Some hours)
@@ -173,7 +177,8 @@ module _ (n count : ℕ) (own found : List Row) (it : AreShown n made.entry_rows
     unique : (fs : List Entry) → EntriesFit n count own given fs → given ++ entered_spans fs ≡ all
     unique fs fit =
         let same : fs ≡ es = sym (entries_back 1 fs) ∙ ap entries_in (is.only (numbered_from 1 fs) (rows_of fs fit)) in
-        ap (λ xs. given ++ entered_spans xs) same ∙ ap (λ spans. given ++ spans) (entries_give hours.items is.typed.xs is.typed.stands) ∙ sym sum
+        ap (λ xs. given ++ entered_spans xs) same
+        ∙ ap (λ spans. given ++ spans) (entries_give hours.items is.typed.xs is.typed.stands) ∙ sym sum
 
     fit : Agrees all → EntriesFit n count own given es
     fit agrees =

@@ -58,7 +58,8 @@ module _ (rows : TableName → List Row) (r : DriverRow) (basis : Basis) (found 
       (subst (λ c. DownloadsFit r.driver r.holder c (rows Downloads) m.member.driver.downloads) (sym it.judged_by.downloads)
       (fits_downloads rows r it.own it.columns k m late))
 
-  pub wrong_downloads : AreDownloads r.driver basis.holder basis.downloads (rows Downloads) None → IsJudged rows (pos r.driver) (Some Downloads)
+  pub wrong_downloads : AreDownloads r.driver basis.holder basis.downloads (rows Downloads) None
+      → IsJudged rows (pos r.driver) (Some Downloads)
   wrong_downloads never = (
     (λ sound. let m = member Downloads sound in never m.member.driver.downloads (files_fit Downloads m (omega arith))),
     before Drivers Downloads (omega arith) (drivers_have rows r it.own it.columns),
@@ -103,7 +104,8 @@ module _ (rows : TableName → List Row) (r : DriverRow) (basis : Basis) (found 
           (subst (λ xs. EntriesFit r.driver r.entries (rows EntryRows) xs m.member.driver.entries) (same_given k m (omega (arith, late)))
           (fits_entries rows r it.own it.columns k m late))
 
-      pub wrong_entries : AreEntries r.driver basis.entries (rows EntryRows) given.items None → IsJudged rows (pos r.driver) (Some EntryRows)
+      pub wrong_entries : AreEntries r.driver basis.entries (rows EntryRows) given.items None
+          → IsJudged rows (pos r.driver) (Some EntryRows)
       wrong_entries never = (
         (λ sound. let m = member EntryRows sound in never m.member.driver.entries (hours_fit EntryRows m (omega arith))),
         before CardSpans EntryRows (omega arith) (cards_have rows r it.own it.columns ds ds_fit cards.0 cs_fit),

@@ -1,7 +1,11 @@
 -- Spans that are sorted by their starts are disjoint exactly if they rise; disjoint spans keep what other spans give exactly if both have
 -- the same canonical list.
-use Rattle.std.proofs.Common.{◌≡◌, ◌∙◌, ℕ, suc, ◌<◌, ◌≤◌, ◌==◌, ◌&&◌, ◌⊎◌, inl, inr, ◌↔◌, Bool, true, false, List, [], ◌∷◌, length, Option, None, Some, refl, sym, ap, subst, arith}
-use Rattle.std.proofs.lemmas.Bool.Decides.{nat_tests}
+use Rattle.std.proofs.Common.{◌≡◌, ◌∙◌, ℕ, suc, ◌<◌, ◌≤◌, ◌==◌, ◌&&◌, ◌⊎◌, inl, inr, ◌↔◌, Bool, true, false, List, [], ◌∷◌, length, Option, None, Some, refl, sym, ap, subst, arith, ap₂}
+use Rattle.std.specs.Bool.{Decides, beq}
+use lib.Pointwise.{pointwise}
+use Rattle.std.specs.Cmp.{booleans_Decides}
+use Rattle.std.proofs.lemmas.Bool.Decides.{Decides-and, Decides-eqb}
+use Rattle.std.proofs.lemmas.Slice.Eq.{slice_eq-Decides}
 use Rattle.std.specs.Prelude.{Vec, IsTrue}
 use Rattle.std.specs.declared.alloc.Global.{Global}
 use Rattle.std.specs.List.{slice_index_or}
@@ -11,14 +15,12 @@ use Rattle.tacho_time.specs.declared.span.Span.{Span}
 use Rattle.tacho_time.specs.declared.span.Mark.{Mark}
 use Rattle.tacho_time.specs.Spans.{Gives, GiveSame, SamePairs, IsCanonicalOf, Conflicts}
 use Rattle.tacho_time.specs.declared.span.Activity.{Activity}
-use Rattle.tacho_time.specs.declared.span.Activity.TheVariants.{Rest, Available, Work, Drive}
-use Rattle.tacho_time.specs.Merge.{same_mark}
-use Rattle.tacho_time.proofs.CanonicalLemmas.{both_true, marks_equal, lt_or_le, one_list}
+use Rattle.tacho_time.proofs.CanonicalLemmas.{lt_or_le, one_list}
 use Rattle.tacho_line.specs.Join.{ShareNone}
 use Rattle.tacho_state.specs.Disjoint.{AreDisjoint, Keeps}
 use Rattle.tacho_state.proofs.DisjointLemmas.{disjoint_agrees}
 use Rattle.tacho_state.proofs.OrderLemmas.{disjoint_moved}
-use Rattle.tacho_check.specs.Keeping.{same_span, same_lists, same_found, Rise, IsListOf}
+use Rattle.tacho_check.specs.Keeping.{AreSame, Rise, IsListOf}
 
 -- ---- rising spans
 
@@ -74,98 +76,58 @@ decides_disjoint spans sorted moved up b h = (
 
 -- ---- equal lists
 
--- a list without elements is empty
-pub nil_of : {A : Type 0} (xs : List A) → length xs ≡ 0 → xs ≡ []
-nil_of [] none = refl
-nil_of (x ∷ xs) none = absurd (omega (arith, none))
-
--- a number passes the test with itself
-eq_self : (n : ℕ) → (n == n) ≡ true
-eq_self n = grind (arith, nat_tests)
-
--- a mark is the same as itself
-mark_self : (a : Activity) (crew : Bool) → same_mark (record { activity = a; crew = crew }) (record { activity = a; crew = crew }) ≡ true
-mark_self Rest true = refl
-mark_self Rest false = refl
-mark_self Available true = refl
-mark_self Available false = refl
-mark_self Work true = refl
-mark_self Work false = refl
-mark_self Drive true = refl
-mark_self Drive false = refl
-
--- numbers that pass the test are equal
-eq_true : (j n : ℕ) → (j == n) ≡ true → j ≡ n
-eq_true j n e = grind (arith, nat_tests)
-
--- spans that pass the test are equal
-span_equal : (s t : Span) → same_span s t ≡ true → s ≡ t
-span_equal s t h =
-    let parts = both_true ((s.start == t.start) && (s.past == t.past)) (same_mark s.mark t.mark) h in
-    let bounds = both_true (s.start == t.start) (s.past == t.past) parts.0 in
-    let from : s.start ≡ t.start = eq_true s.start t.start bounds.0 in
-    let past : s.past ≡ t.past = eq_true s.past t.past bounds.1 in
-    let mark = marks_equal s.mark t.mark parts.1 in
-    let one : s ≡ record { start = t.start; past = s.past; mark = s.mark } =
-    ap (λ (x : ℕ). record { start = x; past = s.past; mark = s.mark }) from in
-    let two : record { start = t.start; past = s.past; mark = s.mark } ≡ record { start = t.start; past = t.past; mark = s.mark } =
-    ap (λ (x : ℕ). record { start = t.start; past = x; mark = s.mark }) past in
-    let three : record { start = t.start; past = t.past; mark = s.mark } ≡ t =
-    ap (λ x. record { start = t.start; past = t.past; mark = x }) mark in
-    one ∙ two ∙ three
-
--- lists that pass the test are equal
-lists_equal : (xs ys : List Span) → same_lists xs ys ≡ true → xs ≡ ys
-lists_equal [] [] h = refl
-lists_equal [] (y ∷ ys) h = cc
-lists_equal (x ∷ xs) [] h = cc
-lists_equal (x ∷ xs) (y ∷ ys) h =
-    let parts = both_true (same_span x y) (same_lists xs ys) h in
-    ap (λ z. z ∷ xs) (span_equal x y parts.0) ∙ ap (λ zs. y ∷ zs) (lists_equal xs ys parts.1)
-
--- a span passes the test with itself
-span_same : (s : Span) → same_span s s ≡ true
-span_same s = rw (eq_self s.start, eq_self s.past, mark_self s.mark.activity s.mark.crew) refl
-
--- so does a list
-lists_same : (xs : List Span) → same_lists xs xs ≡ true
-lists_same [] = refl
-lists_same (x ∷ xs) = rw (span_same x, lists_same xs) refl
+-- spans are compared field by field; so the test of lists that compares their spans decides whether they are the same
+pub lists_decided : (same : Activity → Activity → Bool) → ((a : Activity) → same a a ≡ true) → ((a b : Activity) → same a b ≡ true → a ≡ b)
+    → (xs ys : List Span) (r : Bool)
+    → r ≡ pointwise (λ (s t : Span). (s.start == t.start) && ((s.past == t.past) && (same s.mark.activity t.mark.activity
+    && beq s.mark.crew t.mark.crew))) xs ys → Decides r (xs ≡ ys)
+lists_decided same self one = slice_eq-Decides spans where
+  spans : (s t : Span) → Decides ((s.start == t.start) && ((s.past == t.past) && (same s.mark.activity t.mark.activity
+      && beq s.mark.crew t.mark.crew))) (s ≡ t)
+  spans s t =
+      let act : Decides (same s.mark.activity t.mark.activity) (s.mark.activity ≡ t.mark.activity) =
+      (one s.mark.activity t.mark.activity, λ e. subst (λ a. same s.mark.activity a ≡ true) e (self s.mark.activity)) in
+      let all = Decides-and _ _ (Decides-eqb s.start t.start) (Decides-and _ _ (Decides-eqb s.past t.past)
+      (Decides-and _ _ act (booleans_Decides s.mark.crew t.mark.crew))) in (
+        (λ is.
+            let e = all.0 is in
+            ap₂ (λ (from past : ℕ). record { start = from; past = past; mark = s.mark }) e.0 e.1.0
+            ∙ ap₂ (λ (a : Activity) (c : Bool). record { start = t.start; past = t.past; mark = record { activity = a; crew = c } })
+            e.1.1.0 e.1.1.1),
+        (λ e. all.1 (
+          ap (λ (x : Span). x.start) e,
+          (ap (λ (x : Span). x.past) e, (ap (λ (x : Span). x.mark.activity) e, ap (λ (x : Span). x.mark.crew) e)),
+        )),
+      )
 
 -- ---- what disjoint spans give
 
 -- two lists give the same exactly if their canonical lists are the same
 same_given : (xs ys own others : List Span) → IsCanonicalOf (Gives xs) own → IsCanonicalOf (Gives ys) others
-    → (IsTrue (same_lists own others) ↔ GiveSame xs ys)
+    → ((own ≡ others) ↔ GiveSame xs ys)
 same_given xs ys own others p q = (there, back) where
-  there : IsTrue (same_lists own others) → GiveSame xs ys
-  there is m k =
-      let same : own ≡ others = lists_equal own others is in
+  there : own ≡ others → GiveSame xs ys
+  there same m k =
       let step : (Gives own m k → Gives others m k) × (Gives others m k → Gives own m k) =
       subst (λ (zs : List Span). (Gives own m k → Gives zs m k) × (Gives zs m k → Gives own m k)) same ((λ g. g), (λ g. g)) in
       (λ g. (q.same m k).0 (step.0 ((p.same m k).1 g)), λ g. (p.same m k).0 (step.1 ((q.same m k).1 g)))
 
-  back : GiveSame xs ys → IsTrue (same_lists own others)
-  back h =
-      let alike : GiveSame own others =
-      λ m k. (λ g. (q.same m k).1 ((h m k).0 ((p.same m k).0 g)), λ g. (p.same m k).1 ((h m k).1 ((q.same m k).0 g))) in
-      let same : own ≡ others = one_list own others p.canonical q.canonical alike in
-      subst (λ (zs : List Span). same_lists own zs ≡ true) same (lists_same own)
+  back : GiveSame xs ys → own ≡ others
+  back h = one_list own others p.canonical q.canonical
+      (λ m k. (λ g. (q.same m k).1 ((h m k).0 ((p.same m k).0 g)), λ g. (p.same m k).1 ((h m k).1 ((q.same m k).0 g))))
 
 -- a minute with two marks of one of them has two in the other
 same_conflict : (xs ys : List Span) (m : ℕ) → GiveSame xs ys → Conflicts (Gives ys) m → Conflicts (Gives xs) m
 same_conflict xs ys m h c = (c.0, c.1, (h m c.0).1 c.2, (h m c.1).1 c.3, c.4)
 
--- the test decides whether disjoint spans give what other spans give
+-- disjoint spans give what other spans give exactly if both have a canonical list, which is the same
 pub decides_same : (ws given : List Span) (own others : Option (Vec Span Global)) → AreDisjoint ws → IsListOf ws own
-    → IsListOf given others → (IsTrue (same_found own others) ↔ GiveSame ws given)
-decides_same ws given (Some a) (Some b) apart p q = same_given ws given a.items b.items p q
-decides_same ws given (Some a) None apart p q = (
-  (λ no. let e : false ≡ true = no in cc),
-  λ h. absurd
-      (disjoint_agrees ws q.0 apart (same_conflict ws given q.0 h q.1.0)),
-)
-decides_same ws given None b apart p q = absurd (disjoint_agrees ws p.0 apart p.1.0)
+    → IsListOf given others → (b : Bool) → (IsTrue b ↔ AreSame own others) → (IsTrue b ↔ GiveSame ws given)
+decides_same ws given (Some a) (Some b) apart p q r h =
+    let both = same_given ws given a.items b.items p q in (λ is. both.0 (h.0 is), λ same. h.1 (both.1 same))
+decides_same ws given (Some a) None apart p q r h =
+    (λ is. absurd (h.0 is), λ same. absurd (disjoint_agrees ws q.0 apart (same_conflict ws given q.0 same q.1.0)))
+decides_same ws given None b apart p q r h = absurd (disjoint_agrees ws p.0 apart p.1.0)
 
 -- ---- spans that keep what others give
 

@@ -105,6 +105,7 @@ module _ (n : ℕ) (own found : List Row) (it : AreShown n (made.spans []).colum
           },
         )),
         (λ others. decided.1 (moved_keeps others.0 spans (Gives given)
-            (subst (IsPermutation others.0) (sym same) (same_stored (columns_of n) (one_span n) others.0 is.xs own (fit_rows others.0 others.2) is.rows))
+            (subst (IsPermutation others.0) (sym same) (same_stored (columns_of n) (one_span n) others.0 is.xs own
+            (fit_rows others.0 others.2) is.rows))
             others.2.keeps)),
       )

@@ -81,7 +81,8 @@ module _ {S : Type 0} {g : Ghosts S} {a b c : MutBor (Held S)} {A B E F : Type 0
       → Learns g a c r (λ layout db y. first layout db x × second layout db y)
   unfolding still
   both p {r} q =
-      let same = λ (clean : HasCleanDisk (state g c.now)) (is : IsArchive (state g a.now).now). p.reads.same (q.reads.stays.clean clean) is in
+      let same = λ (clean : HasCleanDisk (state g c.now)) (is : IsArchive (state g a.now).now).
+      p.reads.same (q.reads.stays.clean clean) is in
       let there = λ (clean : HasCleanDisk (state g c.now)) (is : IsArchive (state g a.now).now).
       still (state g a.now) (state g b.now) (same clean is) is in
       record {

@@ -1,16 +1,15 @@
 -- A driver's row in `drivers`, as it was read.
-use Rattle.std.proofs.Common.{◌≡◌, ◌≢◌, ◌∙◌, ℕ, ℤ, pos, ◌<◌, ◌≤◌, not, List, [], ◌∷◌, drop, length, map, true, Some, refl, sym, ap, subst, inl, arith}
+use Rattle.std.proofs.Common.{◌≡◌, ◌≢◌, ◌∙◌, ℤ, pos, ◌<◌, ◌≤◌, not, List, [], ◌∷◌, drop, length, map, true, Some, refl, sym, ap, subst, inl, arith}
 use Rattle.std.specs.Prelude.{get_or}
 use Rattle.std.specs.List.Sorted.{IsPermutation}
-use Rattle.std.specs.Ordering.{int_eq}
 use Rattle.std.proofs.lemmas.Bool.{and_parts}
-use Rattle.std.proofs.lemmas.Int.{ints}
 use Rattle.std.proofs.lemmas.List.Sorted.{IsPermutation-sym}
 use Rattle.sqlite_value.specs.declared.value.Value.TheVariants.{Null, Int, Text, Blob}
 use Rattle.sqlite_value.specs.Order.{Row, column}
 use Rattle.sqlite_sql.specs.Ops.{is_null}
 use Rattle.sqlite_schema.specs.Rules.{are_typed}
 use Rattle.sqlite_trees.specs.Tree.{Trees}
+use Rattle.sqlite_keyed.proofs.KeyedLemmas.{same_int}
 use Rattle.sqlite_rules.specs.Lists.{Has}
 use Rattle.sqlite_rules.proofs.ListLemmas.{has_filtered}
 use Rattle.tacho_tables.specs.Schema.{Layout}
@@ -62,7 +61,8 @@ driver_made (v ∷ k ∷ w) typed r shows =
     let f : column w 3 ≡ Text r.name = shows.name in
     let g : column w 4 ≡ Int (pos r.downloads) = shows.downloads in
     let h : column w 5 ≡ Int (pos r.entries) = shows.entries in
-    ap (λ u. u ∷ k ∷ w) a ∙ ap (λ us. Int (pos r.driver) ∷ us) (rw (c, d, e, f, g, h) at is) ∙ ap (λ u. Int (pos r.driver) ∷ u ∷ drop 2 (driver_row r)) b
+    ap (λ u. u ∷ k ∷ w) a ∙ ap (λ us. Int (pos r.driver) ∷ us) (rw (c, d, e, f, g, h) at is)
+    ∙ ap (λ u. Int (pos r.driver) ∷ u ∷ drop 2 (driver_row r)) b
 
 -- a driver's row shows the driver
 pub shows_driver : (r : DriverRow) → HasOwnColumns r → ShowsDriver (driver_values (driver_row r)) r
@@ -76,9 +76,6 @@ shows_driver r has = record {
   entries = refl;
   within = has;
 }
-
-number_is : (n : ℤ) (m : ℕ) → int_eq (pos m) n ≡ true → n ≡ pos m
-number_is n m h = grind (arith, ints)
 
 module _ (layout : Layout) (db : Trees) (n : ℤ) (ready : IsReadable layout db) (found : OwnRows)
     (shown : AreOwnRows (own_in layout db n) found) where
@@ -142,4 +139,4 @@ module _ (layout : Layout) (db : Trees) (n : ℤ) (ready : IsReadable layout db)
     is = alone.1 ∙ ap (λ w. w ∷ []) stored
 
     number : n ≡ pos r.driver
-    number = number_is n r.driver (subst (λ w. is_own n w ≡ true) stored kept.1)
+    number = sym (same_int (pos r.driver) n (subst (λ w. is_own n w ≡ true) stored kept.1))

@@ -6,13 +6,14 @@ use Rattle.std.specs.List.{AllByRecursion}
 use Rattle.std.specs.List.Sorted.{IsPermutation}
 use Rattle.std.specs.Ordering.{int_eq}
 use Rattle.std.proofs.lemmas.Bool.Decides.{nat_tests}
-use Rattle.std.proofs.lemmas.Int.{ints}
 use Rattle.std.proofs.lemmas.List.Sorted.{IsPermutation-sym}
 use Rattle.sqlite_value.specs.declared.value.Value.TheVariants.{Int}
 use Rattle.sqlite_value.specs.Order.{Row, column}
 use Rattle.sqlite_schema.specs.declared.schema.Column.{Column}
 use Rattle.sqlite_schema.specs.Rules.{are_typed}
+use Rattle.sqlite_keyed.proofs.KeyedLemmas.{same_int}
 use Rattle.sqlite_rules.proofs.ListLemmas.{all_from, has_filtered}
+use Rattle.sqlite_rules.proofs.ProbeLemmas.{has_mapped}
 use Rattle.tacho_tables.specs.declared.table.TableName.{TableName}
 use Rattle.tacho_tables.specs.declared.table.TableName.TheVariants.{Drivers, Downloads, CardSpans, EntryRows, Held}
 use Rattle.tacho_tables.specs.Readable.{is_number, is_own, own_rows}
@@ -22,12 +23,12 @@ use Rattle.tacho_check.specs.declared.own.OwnRows.{OwnRows}
 use Rattle.tacho_check.specs.Own.{rows_of, AreOwnRows}
 use Rattle.tacho_check.specs.Typed.{IsOwnRow}
 use Rattle.tacho_check.proofs.OwnLemmas.{none_moved}
-use Rattle.tacho_check.proofs.SpreadLemmas.{has_unmapped}
 use Rattle.tacho_check.proofs.TypeLemmas.{HasTypes}
 
 -- rows that were read of each table
 pub each_table : (own : TableName → List Row) (found : OwnRows) → Show (shown_of Drivers) (own Drivers) (rows_of found Drivers)
-    → Show (shown_of Downloads) (own Downloads) (rows_of found Downloads) → Show (shown_of CardSpans) (own CardSpans) (rows_of found CardSpans)
+    → Show (shown_of Downloads) (own Downloads) (rows_of found Downloads)
+    → Show (shown_of CardSpans) (own CardSpans) (rows_of found CardSpans)
     → Show (shown_of EntryRows) (own EntryRows) (rows_of found EntryRows) → Show (shown_of Held) (own Held) (rows_of found Held)
     → AreOwnRows own found
 each_table own found a b c d e Drivers = a
@@ -77,20 +78,17 @@ full_shown shown own found same empty is off = some_shown shown own found.items 
 
 -- ---- typed rows
 
-int_is : (m : ℤ) (n : ℕ) → int_eq m (pos n) ≡ true → m ≡ pos n
-int_is m n h = grind (arith, ints)
-
 -- a driver's stored rows have the driver's number, and the types of their table
 pub own_rows_are : (m : ℤ) (n : ℕ) → m ≡ pos n → (table : List Column) (rows : List Row) → HasDriver rows → HasTypes table rows
     → AllByRecursion (IsOwnRow n table) (own_rows m (map (drop 1) rows))
 own_rows_are m n same table rows has types = all_from (IsOwnRow n table) (own_rows m (map (drop 1) rows))
     (λ w there.
     let was = has_filtered (is_own m) (map (drop 1) rows) w there in
-    let row = has_unmapped (drop 1) rows w was.0 in
+    let row = has_mapped (drop 1) rows w was.0 in
     let number = has row.0 row.1 in
     let first : column w 0 ≡ Int number.0 = ap (λ (z : Row). column z 0) row.2 ∙ number.1 in
     let is : int_eq number.0 (pos n) ≡ true = subst (λ z. int_eq number.0 z ≡ true) same (sym (ap (is_number m) first) ∙ was.1) in
     record {
-      driver = first ∙ ap Int (int_is number.0 n is);
+      driver = first ∙ ap Int (same_int number.0 (pos n) is);
       typed = subst (λ (z : Row). are_typed None 0 table z ≡ true) (sym row.2) (types row.0 row.1);
     })

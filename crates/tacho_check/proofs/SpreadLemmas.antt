@@ -11,6 +11,7 @@ use Rattle.sqlite_value.specs.declared.value.Value.TheVariants.{Null, Int, Real,
 use Rattle.sqlite_value.specs.Order.{Row, column}
 use Rattle.sqlite_trees.proofs.ListLemmas.{all-permutation, filter-filter}
 use Rattle.sqlite_rules.specs.Lists.{Has}
+use Rattle.sqlite_rules.proofs.ProbeLemmas.{mapped_has}
 use Rattle.sqlite_rules.proofs.ListLemmas.{all_has, has_filtered}
 use Rattle.tacho_tables.specs.Rows.{AreRowsOf}
 use Rattle.tacho_state.specs.Distinct.{HasNot, AreDistinct}
@@ -18,17 +19,6 @@ use Rattle.tacho_tables.specs.Readable.{is_number, is_own, own_rows, AreNumbered
 use Rattle.tacho_check.specs.Member.{Member, state_of}
 
 -- ---- elements
-
--- an image is that of an element
-pub has_unmapped : {A B : Type 0} (f : A → B) (xs : List A) (y : B) → Has (map f xs) y → (x : A) × Has xs x × (y ≡ f x)
-has_unmapped f [] y has = absurd has
-has_unmapped f (x ∷ xs) y (inl is) = (x, inl refl, is)
-has_unmapped f (x ∷ xs) y (inr later) = let it = has_unmapped f xs y later in (it.0, inr it.1, it.2)
-
-pub has_mapped : {A B : Type 0} (f : A → B) (xs : List A) (x : A) → Has xs x → Has (map f xs) (f x)
-has_mapped f [] x has = absurd has
-has_mapped f (y ∷ xs) x (inl is) = inl (ap f is)
-has_mapped f (y ∷ xs) x (inr later) = inr (has_mapped f xs x later)
 
 -- a list with one element has it alone in every order
 pub single : {X : Type 0} (x : X) (ys : List X) → IsPermutation (x ∷ []) ys → ys ≡ x ∷ []
@@ -141,5 +131,5 @@ module _ {X : Type 0} (columns : X → Row) (f : Member → List X) (rows : List
         let made = all_has (λ (y : Row). (x : X) × (y ≡ columns x)) (map (drop 1) rows) (drop 1 r)
         (all-permutation (λ (y : Row). (x : X) × (y ≡ columns x)) (map columns (flat_map f ms)) (map (drop 1) rows) same
         (made_of (flat_map f ms)))
-        (has_mapped (drop 1) rows r has) in
+        (mapped_has (drop 1) rows r has) in
         (id.0, made.0, row_split r id.0 id.1 ∙ ap (λ (z : Row). Int id.0 ∷ z) made.1)

@@ -8,6 +8,7 @@ use Rattle.sqlite_trees.specs.Tree.{Trees}
 use Rattle.sqlite_trees.proofs.ListLemmas.{map-map, IsPermutation-same}
 use Rattle.sqlite_rules.specs.Lists.{Has}
 use Rattle.sqlite_rules.proofs.ListLemmas.{has_filtered, has_kept}
+use Rattle.sqlite_rules.proofs.ProbeLemmas.{has_mapped}
 use Rattle.tacho_state.specs.Distinct.{HasNot, HasNoKey, IsHolderFree, AreDistinct}
 use Rattle.tacho_state.specs.State.{State}
 use Rattle.tacho_state.specs.Within.{AreWithinLimits}
@@ -22,11 +23,11 @@ use Rattle.tacho_tables.proofs.UniqueLemmas.{HasDriver, downloads_have, card_spa
 use Rattle.tacho_reading.specs.Standing.{Represents, driver_columns}
 use Rattle.tacho_check.specs.Check.{IsSoundAt, IsWithinUpTo}
 use Rattle.tacho_check.specs.Member.{Member, IsWhole, downloads_in, cards_in, entries_in, held_in, member_rows, state_of, tables_of, HasMember, IsOwnSound}
-use Rattle.tacho_check.proofs.KeepLemmas.{nil_of}
+use Rattle.std.proofs.lemmas.List.{nil_from_length}
 use Rattle.tacho_check.proofs.MemberLemmas.{not_there, members_represent}
 use Rattle.tacho_check.proofs.OwnLemmas.{sound_own}
 use Rattle.tacho_check.proofs.AbsentLemmas.{before_last}
-use Rattle.tacho_check.proofs.SpreadLemmas.{has_unmapped, single, int_self, table_stands}
+use Rattle.tacho_check.proofs.SpreadLemmas.{single, int_self, table_stands}
 
 -- ---- members that are distinct
 
@@ -76,7 +77,7 @@ distinct (m ∷ ms) once apart = (
       let rest : List Row = own_rows (pos n) (map row_of ms) in
       let more : length (row_of m ∷ rest) ≤ 1 = subst (λ (b : Bool). length (cond b (row_of m ∷ rest) rest) ≤ 1) (own_row m)
       (once (pos n)) in
-      never n ms (nil_of rest (omega (arith, more)))
+      never n ms (nil_from_length rest (omega (arith, more)))
 
   other : (x : Member) → Has ms x → (m.driver.key ≢ x.driver.key) × (m.driver.holder ≢ x.driver.holder)
   other x has = apart m x (inl refl) (inr has) (λ e. not_there n ms x numbers has (sym e))
@@ -167,7 +168,7 @@ module _ (layout : Layout) (db : Trees) (it : IsReadable layout db) (sounds : (n
       → (y : Row) → Has (map (drop 1) rows) y → (m : Member) × Has members.0 m × (is_own (pos m.driver.number) y ≡ true)
   covered j rows same has_driver y has = go (own number) where
     row : (r : Row) × Has rows r × (y ≡ drop 1 r)
-    row = has_unmapped (drop 1) rows y has
+    row = has_mapped (drop 1) rows y has
 
     number : ℤ
     number = (has_driver row.0 row.1).0
@@ -187,7 +188,7 @@ module _ (layout : Layout) (db : Trees) (it : IsReadable layout db) (sounds : (n
         let listed : Has (map row_of members.0) (row_of m.member) =
         subst (λ (xs : List Row). Has xs (row_of m.member)) (sym members.2)
         (has_filtered (is_own number) (db made.driver_rows) (row_of m.member) there).0 in
-        let one = has_unmapped row_of members.0 (row_of m.member) listed in
+        let one = has_mapped row_of members.0 (row_of m.member) listed in
         let alike : m.member.driver.number ≡ one.0.driver.number = let e = one.2 in cc in
         let is : Int number ≡ Int (pos one.0.driver.number) = ap Int (m.number ∙ ap pos alike) in
         (one.0, one.1, ap (is_number (pos one.0.driver.number)) (first ∙ is) ∙ int_self (pos one.0.driver.number))
@@ -210,7 +211,8 @@ module _ (layout : Layout) (db : Trees) (it : IsReadable layout db) (sounds : (n
         downloads = table_stands download_columns downloads_in (db made.download_rows) members.0 are_distinct it.numbered.downloads
             (stored_in Downloads)
             (covered Downloads (db made.download_rows) refl (downloads_have layout db it.sound));
-        card_spans = table_stands span_columns cards_in (db made.card_span_rows) members.0 are_distinct it.numbered.card_spans (stored_in CardSpans)
+        card_spans =
+            table_stands span_columns cards_in (db made.card_span_rows) members.0 are_distinct it.numbered.card_spans (stored_in CardSpans)
             (covered CardSpans (db made.card_span_rows) refl (card_spans_have layout db it.sound));
         entries = table_stands entry_columns entries_in (db (made.entry_tree layout)) members.0 are_distinct it.numbered.entries
             (stored_in EntryRows)

@@ -25,7 +25,8 @@ same_archive x y same is = record {
 
 -- ---- a question after a question that was answered
 
-module _ {S : Type 0} (g : Ghosts S) (a b c : Held S) {A B : Type 0} (first : Layout → Trees → A → Type 0) (second third : Layout → Trees → B → Type 0)
+module _ {S : Type 0} (g : Ghosts S) (a b c : Held S) {A B : Type 0} (first : Layout → Trees → A → Type 0)
+    (second third : Layout → Trees → B → Type 0)
     (x : A) (r : Result B StoreFault) (p : Checks g a b (Ok x) first) (q : Checks g b c r second) where
   -- nothing has changed before the second question
   same_there : HasCleanDisk (state g c) → IsArchive (state g a).now → (state g b).now ≡ (state g a).now
@@ -34,7 +35,8 @@ module _ {S : Type 0} (g : Ghosts S) (a b c : Held S) {A B : Type 0} (first : La
   archive_there : HasCleanDisk (state g c) → IsArchive (state g a).now → IsArchive (state g b).now
   archive_there clean is = same_archive (state g a).now (state g b).now (same_there clean is) is
 
-  pub checks_then : ((layout : Layout) (db : Trees) → IsSound (archive_schema layout) db → first layout db x → (y : B) → second layout db y → third layout db y)
+  pub checks_then : ((layout : Layout) (db : Trees) → IsSound (archive_schema layout) db → first layout db x → (y : B)
+      → second layout db y → third layout db y)
       → Checks g a c r third
   unfolding archive_there same_archive
   checks_then more = record {
@@ -42,7 +44,9 @@ module _ {S : Type 0} (g : Ghosts S) (a b c : Held S) {A B : Type 0} (first : La
     was_open = λ clean now. p.was_open (q.clean clean) (q.was_open clean now);
     live = q.live;
     same = λ clean now is. q.same clean now (archive_there clean is) ∙ same_there clean is;
-    survives = survives_then (state g a) (state g b) (state g c) (λ _. ⊥) (λ _. ⊥) (λ _. ⊥) (λ _ db none. none) (λ _ db none. none) p.survives q.survives;
+    survives =
+        survives_then (state g a) (state g b) (state g c) (λ _. ⊥) (λ _. ⊥) (λ _. ⊥) (λ _ db none. none) (λ _ db none. none)
+        p.survives q.survives;
     found = λ clean is.
         let trees = ap (λ (d : Database). d.trees) (same_there clean is) in
         IfOk-weaker r (second is.layout (state g b).now.trees) (third is.layout (state g a).now.trees)
@@ -64,10 +68,13 @@ open_if_whole false broken h whole = absurd (true≢false (sym (h refl) ∙ whol
 module _ {S : Type 0} (g : Ghosts S) (old new : Held S) (store : S) (r : Result (Option Unsound) StoreFault)
     (h : Checks g old new r (λ layout db found. AreAllNumbered layout db → IsChecked layout db found))
     (settled : IsTrue (state g new).is_open → (state g new).now ≡ (state g new).committed)
-    (undone : (g.view store).trees ≡ (g.view new.store).committed) (clean : HasCleanDisk (state g new)) (is : IsArchive (state g old).now) where
+    (undone : (g.view store).trees ≡ (g.view new.store).committed) (clean : HasCleanDisk (state g new))
+    (is : IsArchive (state g old).now) where
   -- it has the same rows
   pub same_rows : OnOk r ((g.view store).trees ≡ (state g old).now.trees)
-  same_rows = on_ok_weaker r (λ now. undone ∙ sym (ap (λ (d : Database). d.trees) (settled now)) ∙ ap (λ (d : Database). d.trees) (h.same clean now is))
+  same_rows =
+      on_ok_weaker r (λ now. undone ∙ sym (ap (λ (d : Database). d.trees) (settled now))
+      ∙ ap (λ (d : Database). d.trees) (h.same clean now is))
       (h.live clean)
 
   -- and so what was found is true, if the store has numbered its rows

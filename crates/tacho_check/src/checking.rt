@@ -81,10 +81,10 @@ fn check_rows<S: Alter>(
 }
 
 /// Reads all rows of an archive, and returns none if they represent a state within its limits. Else it returns the first driver, by number,
-/// whose rows are those of no such state, and the first of that driver's tables for which this is so. Fails with S12 if `meta` isn't that of a state, or if
-/// `entries`, the table of schema 1, has rows. It takes the connection, and returns its store, which has the same rows, and in which a crash
-/// leaves what it would have left before the call. Only the store itself says that it is whole, and then no row number occurs twice, as the
-/// tables of a state require.
+/// whose rows are those of no such state, and the first of that driver's tables for which this is so. Fails with S12 if `meta` isn't that
+/// of a state, or if `entries`, the table of schema 1, has rows. It takes the connection, and returns its store, which has the same rows,
+/// and in which a crash leaves what it would have left before the call. Only the store itself says that it is whole, and then no row number
+/// occurs twice, as the tables of a state require.
 pub fn check<S: Alter + Drop>(
     alloc: Global,
     mut conn: Connection<S>,

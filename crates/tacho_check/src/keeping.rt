@@ -1,9 +1,9 @@
 //! Whether disjoint spans give what other spans give.
 
-ghost use Rattle.std.specs.Prelude.{◌≡◌, ◌↔◌, IfOk, IsTrue};
+ghost use Rattle.std.specs.Prelude.{◌↔◌, IfOk, IsTrue};
 ghost use Rattle.tacho_time.specs.Spans.{Gives, GiveSame};
 ghost use Rattle.tacho_state.specs.Disjoint.{AreDisjoint, Keeps};
-ghost use Rattle.tacho_check.specs.Keeping.{same_span, same_lists, same_found, Rise, IsListOf};
+ghost use Rattle.tacho_check.specs.Keeping.{AreSame, Rise, IsListOf};
 
 use std::alloc::Global;
 use tacho_tables::TableFault;
@@ -34,36 +34,12 @@ fn rise(spans: &[Span]) -> bool
     true
 }
 
-/// Returns true if the spans are the same.
-fn is_same(a: &Span, b: &Span) -> bool
-    ensures { result ≡ same_span a.now b.now }
-{
-    a.start == b.start && a.past == b.past && a.mark.is_same(b.mark)
-}
-
-/// Returns true if the lists are the same.
-fn are_same(a: &[Span], b: &[Span]) -> bool
-    ensures { result ≡ same_lists a.now b.now }
-{
-    let mut rest = b;
-    for x in a {
-        let Some((y, more)) = rest.split_first() else {
-            return false;
-        };
-        if !is_same(x, y) {
-            return false;
-        }
-        rest = more;
-    }
-    rest.is_empty()
-}
-
 /// Returns true if both lists are there and are the same.
 fn agree(own: &Option<Vec<Span>>, others: &Option<Vec<Span>>) -> bool
-    ensures { result ≡ same_found own.now others.now }
+    ensures { IsTrue result ↔ AreSame own.now others.now }
 {
     match (own, others) {
-        (Some(a), Some(b)) => are_same(a, b),
+        (Some(a), Some(b)) => a == b,
         _ => false,
     }
 }

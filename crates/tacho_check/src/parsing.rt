@@ -75,8 +75,8 @@ fn are_counted<T: Numbered>(rows: &[T], count: u64) -> bool
     rows.len() as u64 == count
 }
 
-/// Returns the typed rows that rows show, in the order of their numbers; none if a row shows none, or if they aren't as many as are counted,
-/// numbered from 1 on.
+/// Returns the typed rows that rows show, in the order of their numbers; none if a row shows none, or if they aren't as many as are
+/// counted, numbered from 1 on.
 pub fn counted<T: Numbered + Drop>(
     alloc: Global,
     rows: &[Row],

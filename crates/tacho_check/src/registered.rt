@@ -39,8 +39,8 @@ fn is_base(day: u64) -> bool
     day >= first && day <= last && (day + 3) % 7 == 0
 }
 
-/// Returns what a row of driver, holder, secret, base, name, downloads and entries says of the driver's other rows; none if no driver within
-/// their limits has such a row.
+/// Returns what a row of driver, holder, secret, base, name, downloads and entries says of the driver's other rows; none if no driver
+/// within their limits has such a row.
 pub fn basis_of(row: &Row) -> Option<Basis>
     ensures { IsParsed ShowsDriver IsBasis row.now result }
 {

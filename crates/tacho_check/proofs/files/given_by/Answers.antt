@@ -12,9 +12,11 @@ loop-row-preserved c =
     let i = c.loop-row.row-index in
     let r : FileRow = c.row-item.result in
     let done : List Span = c.loop-row.given.items in
-    let stands = subst (λ left. GoesOn c.args.holder.now rows left done) (cut_at rows i r (search rules) (search rules)) c.loop-row.invariant in
+    let cut = cut_at rows i r (search rules) (search rules) in
+    let stands = subst (λ left. GoesOn c.args.holder.now rows left done) cut c.loop-row.invariant in
     let read = subst (IsReadingOf c.args.holder.now r) c.in-Some.is c.in_ok-found.ensures in
-    subst (GoesOn c.args.holder.now rows (drop (i + 1) rows)) (sym (c.in_ok-append-in-Some.ensures ∙ ap (λ x. done ++ x) c.deref.ensures.value))
+    subst (GoesOn c.args.holder.now rows (drop (i + 1) rows))
+    (sym (c.in_ok-append-in-Some.ensures ∙ ap (λ x. done ++ x) c.deref.ensures.value))
     (goes_on c.args.holder.now rows (drop (i + 1) rows) r done c.in-Some.spans.items stands read)
 
 pub returns-in-None : goal.returns-in-None
@@ -23,8 +25,10 @@ returns-in-None c =
     let i = c.loop-row.row-index in
     let r : FileRow = c.row-item.result in
     let done : List Span = c.loop-row.given.items in
-    let stands = subst (λ left. GoesOn c.args.holder.now rows left done) (cut_at rows i r (search rules) (search rules)) c.loop-row.invariant in
-    breaks c.args.holder.now rows (drop (i + 1) rows) r done stands (subst (IsReadingOf c.args.holder.now r) c.in-None.is c.in_ok-found.ensures)
+    let cut = cut_at rows i r (search rules) (search rules) in
+    let stands = subst (λ left. GoesOn c.args.holder.now rows left done) cut c.loop-row.invariant in
+    breaks c.args.holder.now rows (drop (i + 1) rows) r done stands
+    (subst (IsReadingOf c.args.holder.now r) c.in-None.is c.in_ok-found.ensures)
 
 pub returns : goal.returns
 returns c =

@@ -15,4 +15,5 @@ pub returns : goal.returns
 returns c = IfOk-weaker c.agreed.result _ _
     (λ r agreed n own it. entries_judged n c.args.count own c.args.rows.now it c.args.given.items c.in-Some.hours
     (subst (AreNumbered (IsParsed ShowsEntry AreHours) (λ h. h.number) c.args.count c.args.rows.now) c.in-Some.is c.in_ok-found.ensures)
-    c.enter.new.given.items (c.in_ok-enter.ensures ∙ ap (λ hours. c.args.given.items ++ entered_hours hours) c.deref.ensures.value) r agreed) c.agreed.ensures
+    c.enter.new.given.items
+    (c.in_ok-enter.ensures ∙ ap (λ hours. c.args.given.items ++ entered_hours hours) c.deref.ensures.value) r agreed) c.agreed.ensures

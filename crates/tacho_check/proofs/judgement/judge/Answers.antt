@@ -6,7 +6,7 @@ use Rattle.tacho_tables.specs.Ask.{driver_values, own_in}
 use Rattle.tacho_tables.specs.declared.table.TableName.TheVariants.{Drivers}
 use Rattle.tacho_check.specs.Judged.{IsJudged}
 use Rattle.tacho_check.specs.Registered.{ShowsDriver}
-use Rattle.tacho_check.proofs.KeepLemmas.{nil_of}
+use Rattle.std.proofs.lemmas.List.{nil_from_length}
 use Rattle.tacho_check.proofs.RegisteredLemmas.{unfit, fit, one_element, not_none, not_one, shows_driver}
 use Rattle.tacho_check.proofs.ShownLemmas.{none_shown}
 use Rattle.tacho_check.proofs.judgement.judge.Goals as goal
@@ -14,7 +14,7 @@ use Rattle.tacho_check.proofs.judgement.judge.Goals as goal
 pub returns-in-empty : goal.returns-in-empty
 returns-in-empty c layout db n ready shown =
     let own = own_in layout db n in
-    let none : c.as_slice.result.now ≡ [] = nil_of c.as_slice.result.now (search rules) in
+    let none : c.as_slice.result.now ≡ [] = nil_from_length c.as_slice.result.now (search rules) in
     c.first_with_rows.ensures own n
     (none_shown driver_values (own Drivers) c.args.rows.now.drivers.items (shown Drivers) (sym c.as_slice.ensures.value ∙ none)) shown
 

@@ -14,7 +14,8 @@ returns-in_err-card_spans g c =
 
 pub returns-in_err-entry_rows : goal.returns-in_err-entry_rows
 returns-in_err-entry_rows g c =
-    learned_none _ _ (both (both (both c.in_ok-drivers.ensures c.in_ok-downloads.ensures) c.in_ok-card_spans.ensures) c.in_err-entry_rows.ensures)
+    learned_none _ _ (both (both
+    (both c.in_ok-drivers.ensures c.in_ok-downloads.ensures) c.in_ok-card_spans.ensures) c.in_err-entry_rows.ensures)
     (search rules)
 
 pub returns-in_err-held : goal.returns-in_err-held

@@ -19,5 +19,6 @@ pub returns : goal.returns
 returns g c = (
   in_order g.T.FromRow.is_of g.T.Numbered.number_of c.args.rows.now c.in_ok-found.found c.in-Some.unordered c.in_order-ordered.result.items
       c.in-Some.is c.in_ok-found.ensures c.in_order-ordered.ensures.same c.in_order-ordered.ensures.sorted,
-  subst (λ xs. IsCounted c.args.count (map g.T.Numbered.number_of xs)) c.deref.ensures.value (c.are_counted.ensures.0 c.if-not-are_counted.false),
+  subst (λ xs. IsCounted c.args.count (map g.T.Numbered.number_of xs)) c.deref.ensures.value
+      (c.are_counted.ensures.0 c.if-not-are_counted.false),
 )

@@ -22,5 +22,9 @@ loop-row-preserved g c =
 
 pub returns-in-None : goal.returns-in-None
 returns-in-None g c =
-    let r : Row = c.row-item.result in
-    (r, has_at c.args.rows.now c.loop-row.row-index r (search rules) (search rules), subst (g.T.FromRow.is_of r) c.in-None.is c.in_ok-next.ensures)
+    let r : Row = c.row-item.result in (
+      r,
+      has_at c.args.rows.now c.loop-row.row-index r (search rules) (search rules),
+      subst
+          (g.T.FromRow.is_of r) c.in-None.is c.in_ok-next.ensures,
+    )
