@@ -1,6 +1,6 @@
 -- A check of all drivers, in the order of their numbers.
-use Rattle.std.proofs.Common.{◌≡◌, ◌∙◌, ℕ, zero, suc, ℤ, ◌+◌, ◌-◌, ◌<◌, ◌≤◌, ◌<ℤ◌, ◌≤ℤ◌, inl, inr, false, List, [], ◌∷◌, None, Some, take, map, length, refl, sym, ap, subst, arith}
-use Rattle.std.specs.List.{Contains, slice_index_or}
+use Rattle.std.proofs.Common.{◌≡◌, ◌∙◌, ℕ, zero, suc, ℤ, ◌+◌, ◌<◌, ◌≤◌, ◌<ℤ◌, ◌≤ℤ◌, inl, inr, false, List, [], ◌∷◌, None, Some, take, map, length, refl, sym, ap, subst, arith, add-one}
+use Rattle.std.specs.List.{slice_index_or}
 use Rattle.std.specs.List.Sorted.{IsPermutation, IsSorted}
 use Rattle.std.specs.Ordering.{is_lt, int_cmp}
 use Rattle.std.proofs.lemmas.Int.{ints}
@@ -12,9 +12,8 @@ use Rattle.sqlite_trees.specs.Tree.{Trees}
 use Rattle.sqlite_trees.proofs.ListLemmas.{all-permutation}
 use Rattle.sqlite_keyed.proofs.KeyedLemmas.{same_int}
 use Rattle.sqlite_rules.specs.Lists.{Has}
-use Rattle.sqlite_rules.proofs.ListLemmas.{all_has, all_from, all_more, has_filtered, contains_had}
+use Rattle.sqlite_rules.proofs.ListLemmas.{all_has, all_from, all_more, has_filtered}
 use Rattle.sqlite_rules.proofs.ProbeLemmas.{mapped_has, has_mapped}
-use Rattle.tacho_time.proofs.CanonicalLemmas.{lt_or_le}
 use Rattle.tacho_tables.specs.Schema.{Layout}
 use Rattle.tacho_tables.specs.Schema as made
 use Rattle.tacho_tables.specs.declared.table.TableName.{TableName}
@@ -34,52 +33,32 @@ use Rattle.tacho_check.proofs.StateLemmas.{all_represent}
 up_self : (a : ℤ) → a ≤ℤ a
 up_self a = grind (arith, ints)
 
-up_then : (a b c : ℤ) → a ≤ℤ b → is_lt (int_cmp c b) ≡ false → a ≤ℤ c
-up_then a b c low next = grind (arith, ints)
-
--- none is above a later one
-later_up : (ns : List ℤ) → IsSorted int_cmp ns → (i n : ℕ) (d : ℤ) → i + n < length ns
-    → slice_index_or ns i d ≤ℤ slice_index_or ns (i + n) d
-later_up ns order i zero d within =
-    let same : i ≡ i + 0 = omega arith in
-    subst (λ (j : ℕ). slice_index_or ns i d ≤ℤ slice_index_or ns j d) same (up_self (slice_index_or ns i d))
-later_up ns order i (suc n) d within =
-    let place : i + n + 1 ≡ i + suc n = omega arith in
-    subst (λ (j : ℕ). slice_index_or ns i d ≤ℤ slice_index_or ns j d) place
-    (up_then (slice_index_or ns i d) (slice_index_or ns (i + n) d) (slice_index_or ns (i + n + 1) d)
-    (later_up ns order i n d (omega (arith, within))) (order (i + n) d (omega arith) (omega (arith, within))))
+up_then : (a b c : ℤ) → is_lt (int_cmp b a) ≡ false → b ≤ℤ c → a ≤ℤ c
+up_then a b c next low = grind (arith, ints)
 
 not_both : (a b : ℤ) → a ≤ℤ b → b <ℤ a → ⊥
 not_both a b low high = grind (arith, ints)
 
--- an element at an earlier place is among those before it
-taken : {X : Type 0} (xs : List X) (i j : ℕ) (x : X) → j < i → j < length xs → x ≡ slice_index_or xs j x → Has (take i xs) x
-taken [] i j x early within is = absurd (omega (arith, within))
-taken (y ∷ xs) zero j x early within is = absurd (omega (arith, early))
-taken (y ∷ xs) (suc i) zero x early within is = inl is
-taken (y ∷ xs) (suc i) (suc j) x early within is = inr (taken xs i j x (omega (arith, early)) (omega (arith, within)) is)
+-- what follows the first of sorted numbers is sorted
+sorted_rest : (n : ℤ) (ns : List ℤ) → IsSorted int_cmp (n ∷ ns) → IsSorted int_cmp ns
+sorted_rest n ns order k d p q = rw add-one (rw add-one at (order (suc k) d (omega (arith, p)) (omega (arith, q))))
 
--- what stands at a place doesn't depend on the value for other places
-one_value : {X : Type 0} (xs : List X) (i : ℕ) (d e : X) → i < length xs → slice_index_or xs i d ≡ slice_index_or xs i e
-one_value [] i d e within = absurd (omega (arith, within))
-one_value (x ∷ xs) zero d e within = refl
-one_value (x ∷ xs) (suc i) d e within = one_value xs i d e (omega (arith, within))
+-- the first is the lowest
+lowest : (n : ℤ) (ns : List ℤ) → IsSorted int_cmp (n ∷ ns) → (m : ℤ) → Has (n ∷ ns) m → n ≤ℤ m
+lowest n ns order m (inl is) = subst (λ (z : ℤ). n ≤ℤ z) (sym is) (up_self n)
+lowest n [] order m (inr later) = absurd later
+lowest n (k ∷ ns) order m (inr later) =
+    up_then n k m (order 0 n (omega arith) (omega arith)) (lowest k ns (sorted_rest n (k ∷ ns) order) m later)
 
 -- a number of the list that is below the one at a place stands before it
 stands_before : (ns : List ℤ) → IsSorted int_cmp ns → (i : ℕ) (x : ℤ) → i < length ns → x ≡ slice_index_or ns i x → (m : ℤ) → Has ns m
-    → m <ℤ x
-    → Has (take i ns) m
-stands_before ns order i x within is m has low = go (contains_had ns m has) where
-  go : Contains ns m → Has (take i ns) m
-  go it =
-      elim (lt_or_le it.0 i) [ inl early ↦ taken ns i it.0 m early it.1 (sym it.2) | inr late ↦ absurd (not_both x m (up late) low) ] where
-        up : i ≤ it.0 → x ≤ℤ m
-        up late =
-            let place : i + (it.0 - i) ≡ it.0 = omega (arith, late) in
-            let rise = later_up ns order i (it.0 - i) m (rw place it.1) in
-            let first : x ≡ slice_index_or ns i m = is ∙ one_value ns i x m within in
-            subst (λ (z : ℤ). z ≤ℤ m) (sym first)
-            (subst (λ (z : ℤ). slice_index_or ns i m ≤ℤ z) it.2 (subst (λ (j : ℕ). slice_index_or ns i m ≤ℤ slice_index_or ns j m) place rise))
+    → m <ℤ x → Has (take i ns) m
+stands_before [] order i x within is m has low = absurd has
+stands_before (n ∷ ns) order zero x within is m has low =
+    absurd (not_both x m (subst (λ (z : ℤ). z ≤ℤ m) (sym is) (lowest n ns order m has)) low)
+stands_before (n ∷ ns) order (suc i) x within is m (inl first) low = inl first
+stands_before (n ∷ ns) order (suc i) x within is m (inr later) low =
+    inr (stands_before ns (sorted_rest n ns order) i x (omega (arith, within)) is m later low)
 
 -- ---- all drivers
 

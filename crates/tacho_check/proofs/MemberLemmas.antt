@@ -4,7 +4,8 @@ use Rattle.std.specs.List.{All, AllByRecursion}
 use Rattle.std.proofs.lemmas.List.{append-nil}
 use Rattle.std.proofs.lemmas.List.Elements.{All-nil, All-append, filter-append}
 use Rattle.sqlite_rules.specs.Lists.{Has}
-use Rattle.sqlite_trees.proofs.ListLemmas.{map-map}
+use Rattle.sqlite_keyed.proofs.ListLemmas.{all_weaker}
+use Rattle.sqlite_trees.proofs.ListLemmas.{map-map, filter_all, filter_none}
 use Rattle.tacho_time.specs.declared.span.Span.{Span}
 use Rattle.tacho_state.specs.Distinct.{HasNot, AreDistinct}
 use Rattle.tacho_state.specs.State.{Download, Entry, IsDownloaded, Held}
@@ -27,17 +28,12 @@ not_there n (x ∷ ms) m h (inr later) = not_there n ms m h.1 later
 module _ {X : Type 0} (key : X → ℕ) where
   -- all of these rows are a driver's
   pub pass_all : (n : ℕ) (xs : List X) → AllByRecursion (λ x. key x ≡ n) xs → filter (λ x. key x == n) xs ≡ xs
-  pass_all n [] h = refl
-  pass_all n (x ∷ xs) h =
-      let is : (key x == n) ≡ true = rw h.0 (eq_self n) in
-      rw is (ap (λ (ys : List X). x ∷ ys) (pass_all n xs h.1))
+  pass_all n xs h = filter_all (λ x. key x == n) xs (all_weaker (λ x. key x ≡ n) (λ x. (key x == n) ≡ true) (λ x e. rw e (eq_self n)) xs h)
 
   -- none of these rows is another driver's
   pub pass_none : (n k : ℕ) (xs : List X) → k ≢ n → AllByRecursion (λ x. key x ≡ k) xs → filter (λ x. key x == n) xs ≡ []
-  pass_none n k [] other h = refl
-  pass_none n k (x ∷ xs) other h =
-      let isnt : (key x == n) ≡ false = rw h.0 (eq_not k n other) in
-      rw isnt (pass_none n k xs other h.1)
+  pass_none n k xs other h =
+      filter_none (λ x. key x == n) xs (all_weaker (λ x. key x ≡ k) (λ x. (key x == n) ≡ false) (λ x e. rw e (eq_not k n other)) xs h)
 
   module _ (f : Member → List X) (own : (m : Member) → AllByRecursion (λ x. key x ≡ m.driver.number) (f m)) where
     -- a driver who isn't in the state has no rows

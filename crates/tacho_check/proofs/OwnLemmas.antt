@@ -9,7 +9,8 @@ use Rattle.std.proofs.lemmas.List.Sorted.{length_permutation}
 use Rattle.sqlite.specs.declared.types.Value.TheVariants.{Int}
 use Rattle.sqlite.specs.Order.{Row, column}
 use Rattle.sqlite.specs.Tree.{Trees}
-use Rattle.sqlite_trees.proofs.ListLemmas.{filter-map, IsPermutation-same}
+use Rattle.sqlite_trees.proofs.ListLemmas.{filter-map, filter_none, IsPermutation-same}
+use Rattle.sqlite_rules.proofs.ListLemmas.{all_from}
 use Rattle.tacho_state.specs.Distinct.{HasNot, AreDistinct}
 use Rattle.tacho_state.specs.State.{Driver, State, driver_of}
 use Rattle.tacho_state.proofs.EqualLemmas.{eq_false, eq_true}
@@ -38,11 +39,6 @@ own_eq a b = grind (arith, ints)
 own_negative : (a b : ℕ) → int_eq (pos a) (negsuc b) ≡ false
 own_negative a b = grind (arith, ints)
 
--- a list without elements that pass is empty
-filter_nothing : {X : Type 0} (p : X → Bool) → ((x : X) → p x ≡ false) → (xs : List X) → filter p xs ≡ []
-filter_nothing p fails [] = refl
-filter_nothing p fails (x ∷ xs) = rw (fails x) (filter_nothing p fails xs)
-
 -- an empty list has no elements in another order
 pub none_moved : {X : Type 0} (xs : List X) → IsPermutation [] xs → xs ≡ []
 none_moved [] same = refl
@@ -58,8 +54,9 @@ module _ {X : Type 0} (columns : X → Row) (key : X → ℕ) (first : (x : X) �
   -- no row has a negative number
   own_typed_none : (n : ℕ) (xs : List X) → own_rows (negsuc n) (map columns xs) ≡ []
   own_typed_none n xs = filter-map (is_own (negsuc n)) columns xs
-      ∙ ap (map columns) (filter_nothing (λ x. is_own (negsuc n) (columns x))
-      (λ x. ap (is_number (negsuc n)) (first x) ∙ own_negative (key x) n) xs)
+      ∙ ap (map columns) (filter_none (λ x. is_own (negsuc n) (columns x)) xs
+      (all_from (λ x. is_own (negsuc n) (columns x) ≡ false) xs
+      (λ x there. ap (is_number (negsuc n)) (first x) ∙ own_negative (key x) n)))
 
 -- ---- rows of spans
 
