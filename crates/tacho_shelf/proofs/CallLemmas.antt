@@ -60,8 +60,8 @@ numbered_push (x ∷ s) d h n = (has_added x.number s d h.0 (λ e. n.0 (sym e)),
 
 abbrev pub ShelfActs : {A B : Type 0} → (A → B) → State → State → Result A StoreFault → (State → Turn B) → Type 0
 ShelfActs view old new result step =
-    Acts (λ (shelf s : State). shelf ≡ s) (λ (_ : State). Unit {0}) (λ (_ : State). Unit {0}) IsAmong (λ (first second : State). second ≡ first)
-    (λ n (first second : State). driver_of n second ≡ driver_of n first) view old new result step
+    Acts (λ (shelf s : State). shelf ≡ s) (λ (_ : State). Unit {0}) (λ (_ : State). Unit {0}) IsAmong
+    (λ (first second : State). second ≡ first) (λ n (first second : State). driver_of n second ≡ driver_of n first) view old new result step
 
 -- a command that answers as its step does, and leaves what the step leaves
 pub acts : {A B : Type 0} (view : A → B) (old new : State) (result : Result A StoreFault) (step : State → Turn B)
@@ -93,9 +93,9 @@ module _ (rows s : State) (i : ℕ) (x d : Driver) (same : rows ≡ s) (numbered
   pub still_numbered : AreNumbered (slice_set rows i d)
   still_numbered = subst AreNumbered (sym is_put) (numbered_put d s (subst AreNumbered same numbered))
 
-pub acts_at : {A B : Type 0} (view : A → B) (own : Own B) (step : State → Turn B) (rows s : State) (i : ℕ) (x d : Driver) (result : Result A StoreFault)
-    → rows ≡ s → AreNumbered rows → slice_get s i ≡ Some x → step s ≡ turn_of s (own x) → IsOwnStep view own x d result
-    → ShelfActs view s (slice_set rows i d) result step
+pub acts_at : {A B : Type 0} (view : A → B) (own : Own B) (step : State → Turn B) (rows s : State) (i : ℕ) (x d : Driver)
+    (result : Result A StoreFault) → rows ≡ s → AreNumbered rows → slice_get s i ≡ Some x → step s ≡ turn_of s (own x)
+    → IsOwnStep view own x d result → ShelfActs view s (slice_set rows i d) result step
 acts_at view own step rows s i x d (Ok done) same numbered at turn is =
     let after = turn ∙ ap (turn_of s) is.told in
     acts view s (slice_set rows i d) (Ok done) step (ap (λ (t : Turn _). t.answer) after)
@@ -120,16 +120,18 @@ read_there i rows s d x same at read =
     cc (sym at ∙ there)
 
 -- such a command on them
-pub acts_on : {A B : Type 0} (view : A → B) (own : Own B) (step : State → Turn B) (n i : ℕ) (rows s : State) (x d : Driver) (result : Result A StoreFault)
-    → step s ≡ own_turn own s (driver_of n s) → rows ≡ s → AreNumbered rows → IsIndexOf s (driver_of n s) (Some i) → x ≡ get_or rows i x
-    → IsOwnStep view own x d result → ShelfActs view s (slice_set rows i d) result step
+pub acts_on : {A B : Type 0} (view : A → B) (own : Own B) (step : State → Turn B) (n i : ℕ) (rows s : State) (x d : Driver)
+    (result : Result A StoreFault) → step s ≡ own_turn own s (driver_of n s) → rows ≡ s → AreNumbered rows
+    → IsIndexOf s (driver_of n s) (Some i) → x ≡ get_or rows i x → IsOwnStep view own x d result
+    → ShelfActs view s (slice_set rows i d) result step
 acts_on view own step n i rows s x d result turn same numbered place read is =
     let at = read_at n i rows s x same place read in
     acts_at view own step rows s i x d result same numbered at (turn ∙ ap (own_turn own s) (sym place.1 ∙ at)) is
 
 pub numbered_on : (n i : ℕ) (rows s : State) (x d : Driver) → rows ≡ s → AreNumbered rows → IsIndexOf s (driver_of n s) (Some i)
     → x ≡ get_or rows i x → d.number ≡ x.number → AreNumbered (slice_set rows i d)
-numbered_on n i rows s x d same numbered place read number = still_numbered rows s i x d same numbered (read_at n i rows s x same place read) number
+numbered_on n i rows s x d same numbered place read number =
+    still_numbered rows s i x d same numbered (read_at n i rows s x same place read) number
 
 -- ---- imports
 
@@ -151,11 +153,13 @@ has_no_fault part bytes read tells card no_such =
     cc
 
 -- what a file's import does by one content of the file, it does by the other: there is one
-pub by_content : (caller : Option ℕ) (part : Part) (bytes : List ℕ) (s : State) (read content : Result Content CardFault) (turn : Turn Imported)
-    → FileTells part bytes read → FileTells part bytes content → import_step caller (part_number part) bytes read s ≡ turn
+pub by_content : (caller : Option ℕ) (part : Part) (bytes : List ℕ) (s : State) (read content : Result Content CardFault)
+    (turn : Turn Imported) → FileTells part bytes read → FileTells part bytes content
+    → import_step caller (part_number part) bytes read s ≡ turn
     → import_step caller (part_number part) bytes content s ≡ turn
 by_content caller part bytes s read content turn told tells is =
-    ap (λ (c : Result Content CardFault). import_step caller (part_number part) bytes c s) (one_content part bytes content read tells told) ∙ is
+    ap (λ (c : Result Content CardFault). import_step caller (part_number part) bytes c s)
+    (one_content part bytes content read tells told) ∙ is
 
 -- the import of a file that can't be read
 pub import_unread : (caller : Option ℕ) (part : Part) (bytes : List ℕ) (s : State) (fault : StoreFault) (content : Result Content CardFault)
@@ -163,4 +167,5 @@ pub import_unread : (caller : Option ℕ) (part : Part) (bytes : List ℕ) (s : 
     → (fault ≡ Memory) ⊎ (import_step caller (part_number part) bytes content s ≡ refusal_turn fault s)
 import_unread caller part bytes s fault content (inl e) tells = inl e
 import_unread caller part bytes s fault content (inr h) tells =
-    inr (by_content caller part bytes s (Err h.0) content (refusal_turn fault s) h.2 tells (ap (λ (f : StoreFault). refusal_turn f s) (sym h.1)))
+    inr (by_content caller part bytes s (Err h.0) content (refusal_turn fault s) h.2 tells
+    (ap (λ (f : StoreFault). refusal_turn f s) (sym h.1)))

@@ -38,5 +38,6 @@ pub same_mark : (line : List Span) (d : Driver) → mark_at line ≡ held_mark d
 same_mark line d e m = ap (λ (f : ℕ → Option Mark). f m) e
 
 -- what is true of the driver who was found is true of the one with the number
-pub true_of_found : (n : ℕ) (s t : State) (d : Driver) (P : Driver → Type 0) → driver_of n s ≡ Some d → s ≡ t → P d → IfSome (driver_of n t) P
+pub true_of_found : (n : ℕ) (s t : State) (d : Driver) (P : Driver → Type 0) → driver_of n s ≡ Some d → s ≡ t → P d
+    → IfSome (driver_of n t) P
 true_of_found n s t d P e same p = subst (λ (o : Option Driver). IfSome o P) (sym e ∙ ap (driver_of n) same) p

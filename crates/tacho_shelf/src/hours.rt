@@ -32,17 +32,6 @@ impl Model for Hours {
 impl Hours {
     ghost use Rattle.std.specs.Prelude.{◌≡◌, true};
     ghost use Rattle.tacho_state.specs.State.{entry_span};
-    ghost use Rattle.tacho_state.specs.Batch.{entry_of};
-
-    /// Makes hours from a line that is entered now.
-    fn new(line: EntryLine) -> Hours
-        ensures { result ≡ entry_of line }
-    {
-        Hours {
-            line,
-            withdrawn: false,
-        }
-    }
 
     /// Returns the span that they give unless they are withdrawn; the driver is alone (single).
     fn span(&self) -> Span
@@ -72,7 +61,11 @@ pub(crate) fn hours_of(alloc: Global, lines: &[EntryLine]) -> Result<Vec<Hours>,
 {
     let mut all = Vec::new(alloc);
     for line in lines {
-        all.push(Hours::new(line.copy(alloc)?))?;
+        let line = line.copy(alloc)?;
+        all.push(Hours {
+            line,
+            withdrawn: false,
+        })?;
     }
     Ok(all)
 }

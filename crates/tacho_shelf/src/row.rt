@@ -131,22 +131,13 @@ impl Row {
         Ok(spans)
     }
 
-    /// Returns the spans of everything that the driver holds.
-    fn held_spans(&self, alloc: Global) -> Result<Vec<Span>, AllocError>
-        ensures held { IfOk result (λ spans. spans.items ≡ held_spans self.now) }
-        ensures kept { IfOk result (λ _. AreKept self.now.downloads self.now.entries) }
-    {
-        let mut spans = self.given_spans(alloc)?;
-        add_spans(&mut spans, &self.entries)?;
-        Ok(spans)
-    }
-
     /// Returns the line of what the driver holds.
     pub(crate) fn line(&self, alloc: Global) -> Result<Line, AllocError>
         ensures line { IfOk result (λ line. IsCanonicalOf (Held self.now) line) }
         ensures marks { IfOk result (λ line. mark_at line ≡ held_mark self.now) }
     {
-        let spans = self.held_spans(alloc)?;
+        let mut spans = self.given_spans(alloc)?;
+        add_spans(&mut spans, &self.entries)?;
         Ok(agreed_line(alloc, &spans)?)
     }
 

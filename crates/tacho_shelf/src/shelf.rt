@@ -1,8 +1,8 @@
-ghost use Rattle.std.specs.Prelude.{◌≡◌, ◌++◌, [], ◌∷◌, Ok, None, Some, MatchOption, MatchResult, IfNone};
+ghost use Rattle.std.specs.Prelude.{◌≡◌, [], Ok, None, Some, MatchResult};
 ghost use Rattle.tacho_state.specs.State.{driver_of, driver_with_key};
-ghost use Rattle.tacho_state.specs.Steps.{register_step, is_another, refusal_turn, owner};
+ghost use Rattle.tacho_state.specs.Steps.{is_another, owner};
 ghost use Rattle.tacho_state.specs.Acts.{IsOfNoFile, caller_number};
-ghost use Rattle.tacho_shelf.specs.Shelf.{IsIndexOf, IsOwnerAt, IsOwnerFault, new_driver};
+ghost use Rattle.tacho_shelf.specs.Shelf.{IsIndexOf, IsOwnerAt, IsOwnerFault};
 
 use crate::row::{Row, place_of, place_of_holder, place_of_key};
 use std::alloc::Global;
@@ -61,33 +61,10 @@ impl Shelf {
         }
     }
 
-    /// Returns why a driver can't be added: the first of S1, S2, S3 and S9 that applies.
-    fn refusal(&self, driver: &Driver) -> Option<StoreFault>
-        ensures new { IfNone result (driver_of driver.now.number self.now ≡ None) }
-        ensures told { MatchOption result
-            (register_step driver.now.number driver.now.holder driver.now.key driver.now.base driver.now.name self.now
-            ≡ record { answer = Ok tt; after = self.now ++ new_driver driver.now ∷ [] })
-            (λ fault. register_step driver.now.number driver.now.holder driver.now.key driver.now.base driver.now.name self.now
-            ≡ refusal_turn fault self.now) }
-    {
-        if place_of(&self.drivers, driver.number()).is_some() {
-            return Some(StoreFault::DriverTaken);
-        }
-        if place_of_key(&self.drivers, driver.key().as_bytes()).is_some() {
-            return Some(StoreFault::KeyTaken);
-        }
-        if place_of_holder(&self.drivers, driver.holder()).is_some() {
-            return Some(StoreFault::HolderTaken);
-        }
-        if !is_monday(driver.base()) {
-            return Some(StoreFault::NotMonday);
-        }
-        None
-    }
-
     /// Returns the place of the driver with this number.
     fn place(&self, driver: u32) -> Result<usize, NoDriver>
-        ensures { MatchResult result (λ i. IsIndexOf self.now (driver_of driver self.now) (Some i)) (λ _. driver_of driver self.now ≡ None) }
+        ensures { MatchResult result (λ i. IsIndexOf self.now (driver_of driver self.now) (Some i))
+            (λ _. driver_of driver self.now ≡ None) }
     {
         place_of(&self.drivers, driver).ok_or(NoDriver)
     }
@@ -165,8 +142,17 @@ impl Keeper for Shelf {
     ghost same_then = { λ first second third was_live was is. is ∙ was };
 
     fn register(&mut self, driver: &Driver) -> Result<(), StoreFault> {
-        if let Some(fault) = self.refusal(driver) {
-            return Err(fault);
+        if place_of(&self.drivers, driver.number()).is_some() {
+            return Err(StoreFault::DriverTaken);
+        }
+        if place_of_key(&self.drivers, driver.key().as_bytes()).is_some() {
+            return Err(StoreFault::KeyTaken);
+        }
+        if place_of_holder(&self.drivers, driver.holder()).is_some() {
+            return Err(StoreFault::HolderTaken);
+        }
+        if !is_monday(driver.base()) {
+            return Err(StoreFault::NotMonday);
         }
         let row = Row::new(self.alloc, driver)?;
         self.drivers.push(row)?;

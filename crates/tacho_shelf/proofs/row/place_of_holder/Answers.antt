@@ -1,12 +1,13 @@
 use borrow.Author.Tests.{tests}
-use Rattle.std.proofs.Common.{bytes_eq, rules}
+use Rattle.std.proofs.Common.{bytes_eq, refl, rules}
 use Rattle.std.proofs.lemmas.Iterator.{YieldsList-from_slice}
 use Rattle.std.proofs.lemmas.Iterator.Search.{position_from_yields_List}
-use Rattle.tacho_shelf.proofs.PlaceLemmas.{place_by_holder}
+use Rattle.tacho_state.specs.State.{holding}
+use Rattle.tacho_shelf.proofs.PlaceLemmas.{place_found}
 use Rattle.tacho_shelf.proofs.row.place_of_holder.Goals as goal
 
 pub returns : goal.returns
 returns c =
-    place_by_holder c.args.holder.now c.args.rows.now c.position.result
+    place_found (λ d. bytes_eq d.holder c.args.holder.now) (holding c.args.holder.now) refl (λ d s. refl) c.args.rows.now c.position.result
     (position_from_yields_List (λ d. bytes_eq d.holder c.args.holder.now) _ _ c.position.result c.position.ensures.ran
     (YieldsList-from_slice c.args.rows.now cc) (λ x b q k. search (rules, tests)))

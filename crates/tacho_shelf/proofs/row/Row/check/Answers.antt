@@ -14,5 +14,5 @@ returns-in-Ok-clause-agreed c = both_agreed (held_spans c.args.self.now) c.in_ok
     c.in-Ok.field-0.items c.in-Ok.ensures
 
 pub returns-clause-told : goal.returns-clause-told
-returns-clause-told c = least_by_fault (held_spans c.args.self.now) c.in_ok-line.line c.args.spans.now c.in_ok-line.ensures.line c.in-Err.fault
-    c.gain_fault.result c.in-Err.ensures c.requires c.gain_fault.ensures.contradiction c.gain_fault.ensures.memory
+returns-clause-told c = least_by_fault (held_spans c.args.self.now) c.in_ok-line.line c.args.spans.now c.in_ok-line.ensures.line
+    c.in-Err.fault c.gain_fault.result c.in-Err.ensures c.requires c.gain_fault.ensures.contradiction c.gain_fault.ensures.memory

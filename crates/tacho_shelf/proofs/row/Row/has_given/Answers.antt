@@ -25,4 +25,5 @@ returns-in-Err-Contradiction c =
     let all : c.deref.result.now ≡ given_spans c.args.self.now.downloads = c.deref.ensures.value ∙ c.in_ok-given.ensures.given in
     let fault = subst (IsGainFault c.in_ok-line.line c.args.spans.now) c.in-Err-Contradiction.field-0-is c.in-Err-Contradiction.ensures in
     not_within_by_conflict (given_spans c.args.self.now.downloads) c.in_ok-line.line c.args.spans.now
-    (subst (λ (xs : List Span). IsCanonicalOf (Gives xs) c.in_ok-line.line) all c.in_ok-line.ensures) c.in-Err-Contradiction.field-0-0 fault.1
+    (subst (λ (xs : List Span). IsCanonicalOf (Gives xs) c.in_ok-line.line) all c.in_ok-line.ensures)
+    c.in-Err-Contradiction.field-0-0 fault.1

@@ -12,6 +12,7 @@ invariant_of-self c =
 
 pub returns-clause-entered : goal.returns-clause-entered
 returns-clause-entered c =
-    acts_on (λ (done : Entered). done.first) (enter_own (batch_of c.args.lines.now)) (enter_step c.args.driver (batch_of c.args.lines.now)) c.args.driver c.in_ok-place.place
-    _ _ c.index_mut.result.now c.enter.new.self c.enter.result refl c.self.view_is c.self.invariant c.in_ok-place.ensures
-    c.index_mut.ensures.value c.enter.ensures.step
+    acts_on (λ (done : Entered). done.first) (enter_own (batch_of c.args.lines.now))
+    (enter_step c.args.driver (batch_of c.args.lines.now))
+    c.args.driver c.in_ok-place.place _ _ c.index_mut.result.now c.enter.new.self c.enter.result refl c.self.view_is
+    c.self.invariant c.in_ok-place.ensures c.index_mut.ensures.value c.enter.ensures.step

@@ -67,7 +67,8 @@ returns-clause-imported c = λ content tells.
     let same = read_there c.in_ok-place.place _ s owner.0 x c.self.view_is owner.1 c.index_mut.ensures.value in
     let own : Own Imported = import_own (part_number c.args.part) c.args.file.now read.spans in
     let turn = by_content (caller_number c.args.caller) c.args.part c.args.file.now s (Ok read) content (turn_of s (own x))
-    c.in_ok-content.ensures.told tells (owner.2 (part_number c.args.part) c.args.file.now read.spans ∙ ap (λ (d : Driver). turn_of s (own d)) same) in
+    c.in_ok-content.ensures.told tells (owner.2 (part_number c.args.part) c.args.file.now read.spans
+    ∙ ap (λ (d : Driver). turn_of s (own d)) same) in
     acts_at (λ (done : Imported). done) own (import_step (caller_number c.args.caller) (part_number c.args.part) c.args.file.now content)
     _ s c.in_ok-place.place x c.import.new.self c.import.result c.self.view_is c.self.invariant (owner.1 ∙ ap Some same) turn
     c.import.ensures.step

@@ -1,5 +1,5 @@
-use Rattle.std.proofs.Common.{◌≡◌, ◌∙◌, None, ap, sym, subst}
-use Rattle.tacho_state.specs.State.{Driver, State, driver_of}
+use Rattle.std.proofs.Common.{◌≡◌, None, sym, subst, rules}
+use Rattle.tacho_state.specs.State.{driver_of}
 use Rattle.tacho_state.proofs.DistinctLemmas.{number_not}
 use Rattle.tacho_shelf.specs.Shelf.{AreNumbered}
 use Rattle.tacho_shelf.proofs.CallLemmas.{numbered_push}
@@ -9,7 +9,5 @@ pub invariant_of-self-2 : goal.invariant_of-self-2
 invariant_of-self-2 c =
     let s = c.self.inside.drivers.items in
     let row = c.in_ok-row.row in
-    let new : driver_of row.number s ≡ None =
-    ap (λ (t : State). driver_of row.number t) c.self.view_is ∙ ap (λ (d : Driver). driver_of d.number c.args.self.now) c.in_ok-row.ensures
-    ∙ c.in_default.ensures.new in
+    let new : driver_of row.number s ≡ None = search rules in
     subst AreNumbered (sym c.in_ok-push.ensures.items) (numbered_push s row c.self.invariant (number_not row.number s new))

@@ -10,6 +10,6 @@ invariant_of-self c =
 
 pub returns-clause-renamed : goal.returns-clause-renamed
 returns-clause-renamed c =
-    acts_on (λ (u : Unit {0}). tt) (rename_own c.args.name.now) (rename_step c.args.driver c.args.name.now) c.args.driver c.in_ok-place.place
-    _ _ c.index_mut.result.now c.rename.new.self c.rename.result refl c.self.view_is c.self.invariant c.in_ok-place.ensures
-    c.index_mut.ensures.value c.rename.ensures
+    acts_on (λ (u : Unit {0}). tt) (rename_own c.args.name.now) (rename_step c.args.driver c.args.name.now)
+    c.args.driver c.in_ok-place.place _ _ c.index_mut.result.now c.rename.new.self c.rename.result refl c.self.view_is
+    c.self.invariant c.in_ok-place.ensures c.index_mut.ensures.value c.rename.ensures

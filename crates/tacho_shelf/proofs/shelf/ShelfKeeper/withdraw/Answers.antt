@@ -10,6 +10,7 @@ invariant_of-self c =
 
 pub returns-clause-withdrawn : goal.returns-clause-withdrawn
 returns-clause-withdrawn c =
-    acts_on (λ (u : Unit {0}). tt) (withdraw_from c.args.first (c.args.last + 1 - c.args.first)) (withdraw_range_step c.args.driver c.args.first c.args.last) c.args.driver c.in_ok-place.place
-    _ _ c.index_mut.result.now c.withdraw.new.self c.withdraw.result refl c.self.view_is c.self.invariant c.in_ok-place.ensures
-    c.index_mut.ensures.value c.withdraw.ensures
+    acts_on (λ (u : Unit {0}). tt) (withdraw_from c.args.first (c.args.last + 1 - c.args.first))
+    (withdraw_range_step c.args.driver c.args.first c.args.last)
+    c.args.driver c.in_ok-place.place _ _ c.index_mut.result.now c.withdraw.new.self c.withdraw.result refl c.self.view_is
+    c.self.invariant c.in_ok-place.ensures c.index_mut.ensures.value c.withdraw.ensures
