@@ -1,11 +1,10 @@
 -- A withdrawal of a range of entries, which are all checked first and marked then; and what it answers.
-use Rattle.std.proofs.Common.{◌≡◌, ℕ, suc, ◌+◌, ◌-◌, ◌<◌, ◌≤◌, ◌==◌, Bool, true, false, List, Ok, Err, refl, sym, ap, ◌∙◌, subst, arith}
-use Rattle.std.proofs.lemmas.Bool.Decides.{nat_tests}
+use Rattle.std.proofs.Common.{◌≡◌, ℕ, suc, ◌+◌, ◌-◌, ◌<◌, ◌≤◌, List, Ok, Err, sym, ap, ◌∙◌, subst, arith}
 use Rattle.tacho_state.specs.declared.fault.StoreFault.{StoreFault}
 use Rattle.tacho_state.specs.State.{Driver, Entry, marked_from, with_marked}
 use Rattle.tacho_state.specs.Steps.{and_then, withdraw_own, withdraw_from}
 use Rattle.tacho_state.proofs.RangeLemmas.{IsKept, done_kept, kept_done, one_more, refused_at, refused_still, still_kept}
-use Rattle.tacho_shelf.specs.Shelf.{IsEntered, AreEntered}
+use Rattle.tacho_shelf.specs.Shelf.{IsEntered}
 
 -- the entry with a number can be withdrawn
 kept : (d : Driver) (number : ℕ) → IsEntered d.entries number → IsKept d number
@@ -18,24 +17,16 @@ is_done d number es h e = kept_done d number (kept d number h) ∙ ap (λ (xs : 
 
 -- ---- the check
 
--- one more entry can be withdrawn
-pub one_checked : (entries : List Entry) (first number : ℕ) → ((i : ℕ) → first ≤ i → i < number → IsEntered entries i)
-    → IsEntered entries number → (i : ℕ) → first ≤ i → i < number + 1 → IsEntered entries i
-one_checked entries first number before h i low high = go (i == number) refl where
-  go : (b : Bool) → (i == number) ≡ b → IsEntered entries i
-  go true e = let same : number ≡ i = grind (arith, nat_tests) in subst (IsEntered entries) same h
-  go false e = let less : i < number = grind (arith, nat_tests) in before i low less
-
 -- the least number that can't be withdrawn refuses the range
 pub range_refused : (first number last : ℕ) (d : Driver) (fault : StoreFault) → first ≤ number → number ≤ last
-    → ((i : ℕ) → first ≤ i → i < number → IsEntered d.entries i) → withdraw_own number d ≡ Err fault
+    → ((i : ℕ) → i < number → first ≤ i → IsEntered d.entries i) → withdraw_own number d ≡ Err fault
     → withdraw_from first (last + 1 - first) d ≡ Err fault
 range_refused first number last d fault low high before refused =
     let all : last + 1 - first ≡ suc (number - first) + (last - number) = omega (arith, low, high) in
     let past : first + (number - first) ≡ number = omega (arith, low) in
     ap (λ k. withdraw_from first k d) all
     ∙ refused_still (last - number) (suc (number - first)) first d fault
-    (refused_at (number - first) first d fault (λ i l h. kept d i (before i l (omega (arith, low, h))))
+    (refused_at (number - first) first d fault (λ i l h. kept d i (before i (omega (arith, low, h)) l))
     (ap (λ k. withdraw_own k d) past ∙ refused))
 
 -- ---- the marks
@@ -46,17 +37,14 @@ pub record HasMarked (first number last : ℕ) (old d : Driver) : Type 0 where
   pub left : (i : ℕ) → number ≤ i → i ≤ last → IsKept d i
 
 -- at first none is
-pub none_marked : (first last : ℕ) (d : Driver) → AreEntered d.entries first last → HasMarked first first last d d
+pub none_marked : (first last : ℕ) (d : Driver) → ((i : ℕ) → first ≤ i → i ≤ last → IsEntered d.entries i)
+    → HasMarked first first last d d
 none_marked first last d h =
     let none : first - first ≡ 0 = omega arith in
     record {
       done = ap (λ k. withdraw_from first k d) none;
       left = λ i low high. kept d i (h i low high);
     }
-
--- the entry that is marked next
-pub next_entered : (first number last : ℕ) (old d : Driver) → HasMarked first number last old d → number ≤ last → IsEntered d.entries number
-next_entered first number last old d h high = let next = h.left number (omega arith) high in (next.entry, next.there, next.kept)
 
 -- then it is withdrawn too
 pub one_marked : (first number last : ℕ) (old d after : Driver) → first ≤ number → HasMarked first number last old d

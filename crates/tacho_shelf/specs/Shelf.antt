@@ -54,10 +54,6 @@ numbered (suc i) records = slice_get records i
 abbrev pub IsEntered : List Entry → ℕ → Type 0
 IsEntered entries number = (e : Entry) × (entry_from 1 number entries ≡ Some e) × (e.withdrawn ≡ false)
 
--- so there is for each number from `first` to `last`
-abbrev pub AreEntered : List Entry → ℕ → ℕ → Type 0
-AreEntered entries first last = (number : ℕ) → first ≤ number → number ≤ last → IsEntered entries number
-
 -- the fault is out of memory, or the first fault of the card file for this part
 abbrev pub IsCardFault : Part → List ℕ → StoreFault → Type 0
 IsCardFault part bytes fault = OrMemory Memory fault ((f : CardFault) × (fault ≡ Card f) × FileTells part bytes (Err f))

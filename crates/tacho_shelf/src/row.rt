@@ -102,7 +102,7 @@ impl Row {
     ghost use Rattle.tacho_state.specs.declared.imported.Imported.TheVariants.{Repeated};
     ghost use Rattle.tacho_state.specs.Files.{listed_from, told_file};
     ghost use Rattle.tacho_state.specs.Summaries.{summary_of, told_summary};
-    ghost use Rattle.tacho_shelf.specs.Shelf.{IsOwnStep, IsLeast, IsEntered, AreEntered, AreKept, new_driver};
+    ghost use Rattle.tacho_shelf.specs.Shelf.{IsOwnStep, IsLeast, IsEntered, AreKept, new_driver};
 
     /// Makes a driver who is registered now.
     pub(crate) fn new(alloc: Global, driver: &Driver) -> Result<Row, AllocError>
@@ -288,21 +288,6 @@ impl Row {
         Ok(())
     }
 
-    /// Fails if an entry from number `first` to `last` can't be withdrawn, with the fault of the least such number: S7, S8.
-    fn check_range(&self, first: u32, last: u32) -> Result<(), StoreFault>
-        requires { first ≤ last }
-        ensures told { MatchResult result (λ _. AreEntered self.now.entries first last)
-            (λ fault. withdraw_from first (last + 1 - first) self.now ≡ Err fault) }
-        ensures of_no_file { IsOfNoFile result }
-    {
-        for number in first..=last {
-            if let Err(fault) = self.check_entry(number) {
-                return Err(fault);
-            }
-        }
-        Ok(())
-    }
-
     /// Marks an entry as withdrawn, which isn't withdrawn yet. It is a function of its own so that the invariant holds after each entry.
     fn mark(&mut self, number: u32)
         requires { IsEntered self.old.entries number }
@@ -312,28 +297,20 @@ impl Row {
         self.entries[place].withdraw();
     }
 
-    /// Marks the entries from number `first` to `last` as withdrawn, none of which is withdrawn yet.
-    #[tactic(auto, using(crate::proofs::RangeLemmas::last_marked))]
-    fn mark_range(&mut self, first: u32, last: u32)
-        requires range { first ≤ last }
-        requires entered { AreEntered self.old.entries first last }
-        ensures { withdraw_from first (last + 1 - first) self.old ≡ Ok (tt, self.new) }
-    {
-        for number in first..=last {
-            self.mark(number);
-        }
-    }
-
     /// Withdraws the entries from number `first` to `last`, all of them or none: S7, S8. All are checked before the first is marked, so
     /// that a refusal changes nothing.
     pub(crate) fn withdraw(&mut self, first: u32, last: u32) -> Result<(), StoreFault>
         requires { first ≤ last }
         ensures { IsOwnStep (λ _. tt) (withdraw_from first (last + 1 - first)) self.old self.new result }
     {
-        if let Err(fault) = self.check_range(first, last) {
-            return Err(fault);
+        for number in first..=last {
+            if let Err(fault) = self.check_entry(number) {
+                return Err(fault);
+            }
         }
-        self.mark_range(first, last);
+        for number in first..=last {
+            self.mark(number);
+        }
         Ok(())
     }
 
