@@ -36,10 +36,10 @@ none_empty_line lines h = none_empty_from 0 lines h
 -- ---- what is kept
 
 -- records that give nothing but what some spans give, which give no minute two marks
-kept_by : (downloads : List Download) (es : List Entry) (spans : List Span) → ((m : ℕ) → ¬ (Conflicts (Gives spans) m))
+kept_under : (downloads : List Download) (es : List Entry) (spans : List Span) → ((m : ℕ) → ¬ (Conflicts (Gives spans) m))
     → ((m : ℕ) (k : Mark) → Gives (given_spans downloads ++ entered_spans es) m k → Gives spans m k)
     → length downloads ≤ most_records → length es ≤ most_records → AreKept downloads es
-kept_by downloads es spans none back few_downloads few = record {
+kept_under downloads es spans none back few_downloads few = record {
   agreed = (λ m c. none m (c.0, c.1, back m c.0 c.2, back m c.1 c.3, c.4));
   few_downloads = few_downloads;
   few = few;
@@ -63,7 +63,7 @@ pub kept_download : (d : Driver) (part : ℕ) (file : List ℕ) (spans : List Sp
     → AreKept (d.downloads ++ record { part = part; file = file; spans = spans } ∷ []) d.entries
 kept_download d part file spans kept room none =
     let all = length-append d.downloads (record { part = part; file = file; spans = spans } ∷ []) in
-    kept_by (d.downloads ++ record { part = part; file = file; spans = spans } ∷ []) d.entries (held_spans d ++ spans) none
+    kept_under (d.downloads ++ record { part = part; file = file; spans = spans } ∷ []) d.entries (held_spans d ++ spans) none
     (λ m k g. joined (held_spans d) spans m k ((download_held part file spans d m k).1 g)) (omega (arith, all, room)) kept.few
 
 -- likewise a batch
@@ -71,7 +71,7 @@ pub kept_batch : (batch : List Entry) (d : Driver) → AreKept d.downloads d.ent
     → ((m : ℕ) → ¬ (Conflicts (Gives (held_spans d ++ entered_spans batch)) m)) → AreKept d.downloads (d.entries ++ batch)
 kept_batch batch d kept room none =
     let all = length-append d.entries batch in
-    kept_by d.downloads (d.entries ++ batch) (held_spans d ++ entered_spans batch) none
+    kept_under d.downloads (d.entries ++ batch) (held_spans d ++ entered_spans batch) none
     (λ m k g. joined (held_spans d) (entered_spans batch) m k ((batch_held batch d m k).1 g)) kept.few_downloads (omega (arith, all, room))
 
 -- ---- an entry that is withdrawn
@@ -112,7 +112,7 @@ pub kept_left : (downloads : List Download) (es : List Entry) (number : ℕ) (x 
 kept_left downloads es number x y kept is =
     let same = length-set es (number - 1) y in
     let few = kept.few in
-    kept_by downloads (slice_set es (number - 1) y) (given_spans downloads ++ entered_spans es) kept.agreed
+    kept_under downloads (slice_set es (number - 1) y) (given_spans downloads ++ entered_spans es) kept.agreed
     (λ m k g. joined (given_spans downloads) (entered_spans es) m k
     (before m k (append_gives (given_spans downloads) (entered_spans (slice_set es (number - 1) y)) m k g)))
     kept.few_downloads (omega (arith, same, few)) where

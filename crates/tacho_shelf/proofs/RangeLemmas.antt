@@ -1,4 +1,4 @@
--- A withdrawal of a range of entries, which are all checked first and marked then; and what it answers.
+-- A withdrawal of a range of entries, which are all checked first and marked then.
 use Rattle.std.proofs.Common.{◌≡◌, ℕ, suc, ◌+◌, ◌-◌, ◌<◌, ◌≤◌, List, Ok, Err, sym, ap, ◌∙◌, subst, arith}
 use Rattle.tacho_state.specs.declared.fault.StoreFault.{StoreFault}
 use Rattle.tacho_state.specs.State.{Driver, Entry, marked_from, with_marked}
