@@ -21,9 +21,9 @@ use tacho_time::{Day, Span, SpanFault};
 /// A card file that was accepted, and the spans that it gives.
 #[derive(Drop)]
 pub(crate) struct Download {
-    pub(crate) part: Part,
+    part: Part,
     pub(crate) file: Vec<u8>,
-    pub(crate) spans: Vec<Span>,
+    spans: Vec<Span>,
 }
 
 impl Model for Download {
@@ -33,25 +33,6 @@ impl Model for Download {
     ghost Value = { Accepted };
 
     ghost view = { λ d. record { part = part_number d.part; file = d.file.items; spans = d.spans.items } };
-}
-
-impl Download {
-    ghost use Rattle.std.specs.Prelude.{◌≡◌, IfOk};
-    ghost use Rattle.tacho_state.specs.Files.{listed_file, told_file};
-
-    /// Makes a copy of the file's bytes.
-    pub(crate) fn copy_of_file(&self, alloc: Global) -> Result<Vec<u8>, AllocError>
-        ensures { IfOk result (λ bytes. bytes.items ≡ self.now.file) }
-    {
-        Vec::from_slice(alloc, &self.file)
-    }
-
-    /// Returns what is listed of the file, which has this number.
-    fn summary(&self, number: u32) -> FileSummary
-        ensures { told_file result ≡ listed_file number self.now }
-    {
-        file_summary(number, self.part, &self.file, &self.spans)
-    }
 }
 
 /// A driver, with their downloads and entries ordered by number. Downloads and entries don't contradict each other, and there are at most
@@ -184,7 +165,7 @@ impl Row {
         let mut files = Vec::new(alloc);
         let mut number = 1u32;
         for download in &self.downloads {
-            files.push(download.summary(number))?;
+            files.push(file_summary(number, download.part, &download.file, &download.spans))?;
             number += 1;
         }
         Ok(files)
