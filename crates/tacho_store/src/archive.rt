@@ -14,6 +14,7 @@ use sqlite::{Alter, Connection, MemStore, Transaction};
 use std::alloc::Global;
 use tacho_card::Part;
 use tacho_line::Line;
+use tacho_reading::act_within;
 use tacho_reading::fault::store_fault;
 use tacho_reading::reading::{
     download, driver, drivers, entries, key, line, line_and_stretches,
@@ -54,18 +55,7 @@ fn make<S: Alter>(conn: &mut Connection<S>) -> Result<(), StoreFault>
     if opening::has_tables(conn) {
         return Err(StoreFault::Store);
     }
-    // For the proof alone: nothing is pending, so what is seen is what was committed.
-    let _settled = conn.is_autocommit();
-    let mut tx = conn.transaction();
-    make_in(&mut tx)?;
-    match tx.commit() {
-        Ok(()) => Ok(()),
-        Err(_) => {
-            // For the proof alone: the commit that failed left nothing pending.
-            let _undone = conn.is_autocommit();
-            Err(StoreFault::Store)
-        }
-    }
+    act_within!(conn, tx, make_in(&mut tx))
 }
 
 /// Reads the version of the schema that the tables have.
@@ -120,18 +110,7 @@ fn carry<S: Alter>(conn: &mut Connection<S>) -> Result<(), StoreFault>
     ensures refused { IfErr result HasGivenUp }
     ensures carried { IsCarried (state S.Store conn.old) (state S.Store conn.new) result }
 {
-    // For the proof alone: nothing is pending, so what is seen is what was committed.
-    let _settled = conn.is_autocommit();
-    let mut tx = conn.transaction();
-    carry_in(&mut tx)?;
-    match tx.commit() {
-        Ok(()) => Ok(()),
-        Err(_) => {
-            // For the proof alone: the commit that failed left nothing pending.
-            let _undone = conn.is_autocommit();
-            Err(StoreFault::Store)
-        }
-    }
+    act_within!(conn, tx, carry_in(&mut tx))
 }
 
 impl<S: Alter> Archive<S> {
