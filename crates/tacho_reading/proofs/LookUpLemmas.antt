@@ -83,10 +83,6 @@ pub driver_found : (n : ℕ) (s : State) (found : Option StoredDriver) → IsOfD
 driver_found n s None none = record { found = tt; refused = ap known_driver none }
 driver_found n s (Some it) h = record { found = h; refused = tt }
 
--- the driver that a look-up has found
-pub the_driver : (n : ℕ) (s : State) (it : StoredDriver) → IsDriver s n (Ok it) → (d : Driver) × (driver_of n s ≡ Some d) × IsStored it d
-the_driver n s it h = h.found
-
 -- a step that answers S4 if nobody has the number is refused as the look-up was
 pub unknown_refuses : {A : Type 0} (n : ℕ) (s : State) (fault : StoreFault) (told : Result A StoreFault)
     → (driver_of n s ≡ None → told ≡ Err UnknownDriver) → IsDriver s n (Err fault) → IsFindingFault fault told
