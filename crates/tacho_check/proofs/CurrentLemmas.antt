@@ -1,5 +1,5 @@
 -- What the rows that are read of `meta` and of the table of schema 1 say of the stored rows.
-use Rattle.std.proofs.Common.{◌≡◌, ◌∙◌, true, true≢false, inl, pos, List, [], ◌∷◌, map, drop, take, slice_get, Some, codes, refl, sym, ap, subst}
+use Rattle.std.proofs.Common.{◌≡◌, ◌∙◌, true, true≢false, inl, pos, List, [], ◌∷◌, map, drop, take, Some, codes, refl, sym, ap, subst}
 use Rattle.std.specs.List.Sorted.{IsPermutation}
 use Rattle.std.proofs.lemmas.Bool.{and_parts}
 use Rattle.std.proofs.lemmas.List.Sorted.{IsPermutation-sym}
