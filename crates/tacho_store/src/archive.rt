@@ -55,7 +55,19 @@ fn make<S: Alter>(conn: &mut Connection<S>) -> Result<(), StoreFault>
     if opening::has_tables(conn) {
         return Err(StoreFault::Store);
     }
-    act_within!(conn, tx, make_in(&mut tx))
+    // For the proof alone: nothing is pending, so what is seen is what was committed.
+    let _settled = conn.is_autocommit();
+    let mut tx = conn.transaction();
+    // A failure is returned as it is: there is no table yet by which the store could be asked.
+    make_in(&mut tx)?;
+    match tx.commit() {
+        Ok(()) => Ok(()),
+        Err(_) => {
+            // For the proof alone: the commit that failed left nothing pending.
+            let _undone = conn.is_autocommit();
+            Err(StoreFault::Store)
+        }
+    }
 }
 
 /// Reads the version of the schema that the tables have.
