@@ -17,13 +17,11 @@ use Rattle.tacho_rules.specs.declared.report.Report.{Report}
 use Rattle.tacho_rules.specs.Report.{examined_line, IsReport}
 use Rattle.tacho_rules.specs.Scan.{AreFindings, IsScanOf}
 use Rattle.tacho_rules.proofs.JoinedLemmas.{held_first, held_after, joined_next, joined_line, joined_horizon}
-use Rattle.tacho_stretches.specs.declared.examination.Examination.{Examination}
 use Rattle.tacho_stretches.specs.declared.examination.Examined.{Examined}
-use Rattle.tacho_stretches.specs.declared.pass.StretchPass.{StretchPass}
 use Rattle.tacho_stretches.specs.declared.stretch.Stretch.{Stretch}
 use Rattle.tacho_stretches.specs.Start.{IsStart, IsNextStart, IsHeld, IsEndOfHeld}
 use Rattle.tacho_stretches.specs.Stretches.{Judged, judged_of, first_monday, unseen_to, IsStretch, AreAll, AreStretches}
-use Rattle.tacho_stretches.specs.Pass.{EndsBy, IsNext, AgreeBefore, IsExaminationOf, IsReportOf, IsExaminedOf, IsStageOf, monday_of, AreDone, CanTake, IsPassOf}
+use Rattle.tacho_stretches.specs.Pass.{EndsBy, IsNext, AgreeBefore, IsExaminationOf, IsReportOf, IsExaminedOf, IsStageOf, monday_of, AreDone, Examining, HasPassed, IsTakeable, Passing}
 use Rattle.tacho_stretches.proofs.NearLemmas.{near_report, near_next}
 use Rattle.tacho_stretches.proofs.StartLemmas.{within, none_single}
 use Rattle.tacho_stretches.proofs.StretchLemmas.{pushed}
@@ -109,7 +107,7 @@ none_after spans past after ended le m is =
 -- ---- an examination
 
 -- a new examination represents no spans
-pub none_examined : (e : Examination) → IsBase e.monday → e.minute ≡ e.monday → IsScanOf e.scan e.found e.monday []
+pub none_examined : (e : Examining) → IsBase e.monday → e.minute ≡ e.monday → IsScanOf e.scan e.found e.monday []
     → (spans : List Span) → IsExaminationOf e spans
 none_examined e monday at scanned spans = record {
   is_base = monday;
@@ -121,7 +119,7 @@ none_examined e monday at scanned spans = record {
 }
 
 -- an examination represents the same spans, whatever comes after them
-pub still : (e : Examination) (spans more : List Span) → IsExaminationOf e spans → IsExaminationOf e (spans ++ more)
+pub still : (e : Examining) (spans more : List Span) → IsExaminationOf e spans → IsExaminationOf e (spans ++ more)
 still e spans more is = record {
   is_base = is.is_base;
   parts = is.parts;
@@ -132,7 +130,7 @@ still e spans more is = record {
 }
 
 -- an examination continues with the rest of a span
-pub gone_on : (e new : Examination) (spans : List Span) (s part : Span) → IsExaminationOf e spans → EndsBy spans e.minute
+pub gone_on : (e new : Examining) (spans : List Span) (s part : Span) → IsExaminationOf e spans → EndsBy spans e.minute
     → s.start ≤ e.minute → e.minute < s.past → s.mark.crew ≡ false → new.monday ≡ e.monday → new.minute ≡ s.past
     → part.start ≡ e.minute → part.past ≡ s.past → part.mark ≡ s.mark
     → ((base : ℕ) (parts : List Span) → IsScanOf e.scan e.found base parts → IsScanOf new.scan new.found base (parts ++ part ∷ []))
@@ -160,7 +158,7 @@ gone_on e new spans s part is ended from some single monday minute start past ma
   held m k (inr (inr g)) = absurd g
 
 -- an examination that ends
-module _ (spans : List Span) (e : Examination) (is : IsExaminationOf e spans) where
+module _ (spans : List Span) (e : Examining) (is : IsExaminationOf e spans) where
   -- so what the scan finds is the report
   pub report_found : (report : Report) (h : Horizon) → e.minute ≤ 68374080 → h.minute ≡ e.minute
       → IsCause (mark_at spans e.minute) h.cause → report.horizon ≡ h
@@ -187,7 +185,7 @@ module _ (spans : List Span) (e : Examination) (is : IsExaminationOf e spans) wh
 
 module _ (spans : List Span) (past : ℕ) (s : Span) (next : IsNext spans past s) where
   -- the examination has stopped, at a minute that the span gives as crew, or that comes before the span
-  pub stopped : (e : Examination) (x : Examined) → past ≤ e.minute → e.minute < s.past → x.report.horizon.minute ≡ e.minute
+  pub stopped : (e : Examining) (x : Examined) → past ≤ e.minute → e.minute < s.past → x.report.horizon.minute ≡ e.minute
       → IsReportOf x (spans ++ s ∷ []) → IsExaminedOf x (spans ++ s ∷ []) spans s.past
   stopped e x le before at report = record {
     report = report;
@@ -271,30 +269,30 @@ start_there s after m some is =
 -- ---- a pass that takes a span
 
 -- the pass has taken the span, given its stretches and its place
-stands_now : (new : StretchPass) (s : Span) (spans : List Span) (past : ℕ) → IsNext spans past s → new.past ≡ s.past → (base : ℕ)
-    → AreDone (spans ++ s ∷ []) s.past base (map judged_of new.done.items) (monday_of new.examination new.examined)
-    → IsStageOf new.examination new.examined (spans ++ s ∷ []) (spans ++ s ∷ []) s.past → IsPassOf new base (spans ++ s ∷ [])
+stands_now : (new : Passing) (s : Span) (spans : List Span) (past : ℕ) → IsNext spans past s → new.past ≡ s.past → (base : ℕ)
+    → AreDone (spans ++ s ∷ []) s.past base (map judged_of new.done) (monday_of new.examination new.examined)
+    → IsStageOf new.examination new.examined (spans ++ s ∷ []) (spans ++ s ∷ []) s.past → HasPassed new base (spans ++ s ∷ [])
 stands_now new s spans past next same base done place = record {
   ended = subst (λ (m : ℕ). EndsBy (spans ++ s ∷ []) m) (sym same) (ended_next spans past s next);
   last = inr (let l = last_next spans past s next in (l.0, same ∙ l.1, l.2));
   done =
-      subst (λ (m : ℕ). AreDone (spans ++ s ∷ []) m base (map judged_of new.done.items) (monday_of new.examination new.examined)) (sym same)
+      subst (λ (m : ℕ). AreDone (spans ++ s ∷ []) m base (map judged_of new.done) (monday_of new.examination new.examined)) (sym same)
       done;
   stands =
       subst (λ (m : ℕ). IsStageOf new.examination new.examined (spans ++ s ∷ []) (spans ++ s ∷ []) m) (sym same) place;
 }
 
 -- the pass examines a span, at most up to a horizon
-module _ (p : StretchPass) (s : Span) (can : CanTake p s) (e : Examination) (was next : Option Examined) (same : was ≡ p.examined)
+module _ (p : Passing) (s : Span) (can : IsTakeable p.past s) (e : Examining) (was next : Option Examined) (same : was ≡ p.examined)
     (monday : monday_of e next ≡ monday_of p.examination was)
     (taken : (past : ℕ) (spans : List Span) → IsNext spans past s → IsStageOf p.examination was spans spans past
-    → IsStageOf e next (spans ++ s ∷ []) spans s.past) (base : ℕ) (spans : List Span) (is : IsPassOf p base spans) where
+    → IsStageOf e next (spans ++ s ∷ []) spans s.past) (base : ℕ) (spans : List Span) (is : HasPassed p base spans) where
   comes : IsNext spans p.past s
   comes = record { ended = is.ended; from = can.from; some = can.some }
 
-  done_so : (o : Option Examined) → next ≡ o → AreDone spans p.past base (map judged_of p.done.items) (monday_of e o)
+  done_so : (o : Option Examined) → next ≡ o → AreDone spans p.past base (map judged_of p.done) (monday_of e o)
   done_so o to =
-      subst (λ (m : ℕ). AreDone spans p.past base (map judged_of p.done.items) m)
+      subst (λ (m : ℕ). AreDone spans p.past base (map judged_of p.done) m)
       (ap (λ (x : Option Examined). monday_of p.examination x) (sym same) ∙ sym monday ∙ ap (λ (x : Option Examined). monday_of e x) to)
       is.done
 
@@ -304,31 +302,31 @@ module _ (p : StretchPass) (s : Span) (can : CanTake p s) (e : Examination) (was
       (subst (λ (x : Option Examined). IsStageOf p.examination x spans spans p.past) (sym same) is.stands))
 
 -- the examination continues
-pub pass_examining : (p new : StretchPass) (s : Span) (was next : Option Examined) → was ≡ p.examined → next ≡ None
-    → new.examined ≡ None → new.past ≡ s.past → new.done.items ≡ p.done.items → CanTake p s
+pub pass_examining : (p new : Passing) (s : Span) (was next : Option Examined) → was ≡ p.examined → next ≡ None
+    → new.examined ≡ None → new.past ≡ s.past → new.done ≡ p.done → IsTakeable p.past s
     → monday_of new.examination next ≡ monday_of p.examination was
     → ((past : ℕ) (spans : List Span) → IsNext spans past s → IsStageOf p.examination was spans spans past
     → IsStageOf new.examination next (spans ++ s ∷ []) spans s.past)
-    → (base : ℕ) (spans : List Span) → IsPassOf p base spans → IsPassOf new base (spans ++ s ∷ [])
+    → (base : ℕ) (spans : List Span) → HasPassed p base spans → HasPassed new base (spans ++ s ∷ [])
 pass_examining p new s was next same ended none past done can monday taken base spans is =
     let e = new.examination in
     let n = comes p s can e was next same monday taken base spans is in
     stands_now new s spans p.past n past base
     (subst (λ (xs : List Stretch). AreDone (spans ++ s ∷ []) s.past base (map judged_of xs) (monday_of e new.examined)) (sym done)
-    (done_stays spans p.past s n base (monday_of e new.examined) (map judged_of p.done.items)
+    (done_stays spans p.past s n base (monday_of e new.examined) (map judged_of p.done)
     (done_so p s can e was next same monday taken base spans is new.examined (ended ∙ sym none))))
     (subst (λ (o : Option Examined). IsStageOf e o (spans ++ s ∷ []) (spans ++ s ∷ []) s.past) (sym none)
     (place_so p s can e was next same monday taken base spans is None ended))
 
 -- or it reaches its horizon, and the pass looks for the next Monday
-pub pass_seeking : {U E : Type 0} (result : Result U E) (p new : StretchPass) (s : Span) (e : Examination) (was next : Option Examined)
-    (x : Examined) → was ≡ p.examined → next ≡ Some x → CanTake p s → monday_of e next ≡ monday_of p.examination was
+pub pass_seeking : {U E : Type 0} (result : Result U E) (p new : Passing) (s : Span) (e : Examining) (was next : Option Examined)
+    (x : Examined) → was ≡ p.examined → next ≡ Some x → IsTakeable p.past s → monday_of e next ≡ monday_of p.examination was
     → ((past : ℕ) (spans : List Span) → IsNext spans past s → IsStageOf p.examination was spans spans past
     → IsStageOf e next (spans ++ s ∷ []) spans s.past)
     → OnOk result ((base past : ℕ) (spans : List Span) → IsNext spans past s
-    → AreDone spans past base (map judged_of p.done.items) x.monday
-    → IsExaminedOf x (spans ++ s ∷ []) spans s.past → IsPassOf new base (spans ++ s ∷ []))
-    → OnOk result ((base : ℕ) (spans : List Span) → IsPassOf p base spans → IsPassOf new base (spans ++ s ∷ []))
+    → AreDone spans past base (map judged_of p.done) x.monday
+    → IsExaminedOf x (spans ++ s ∷ []) spans s.past → HasPassed new base (spans ++ s ∷ []))
+    → OnOk result ((base : ℕ) (spans : List Span) → HasPassed p base spans → HasPassed new base (spans ++ s ∷ []))
 pass_seeking (Ok u) p new s e was next x same at can monday taken h = λ base spans is.
     h base p.past spans (comes p s can e was next same monday taken base spans is)
     (done_so p s can e was next same monday taken base spans is (Some x) at)
@@ -336,14 +334,14 @@ pass_seeking (Ok u) p new s e was next x same at can monday taken h = λ base sp
 pass_seeking (Err fault) p new s e was next x same at can monday taken h = tt
 
 -- the span has no such Monday
-pub sought_none : (new : StretchPass) (s : Span) (x : Examined) → new.past ≡ s.past → new.examined ≡ Some x
+pub sought_none : (new : Passing) (s : Span) (x : Examined) → new.past ≡ s.past → new.examined ≡ Some x
     → IsNextStart (s ∷ []) x.report.horizon.minute None → (base past : ℕ) (spans : List Span) → IsNext spans past s
-    → AreDone spans past base (map judged_of new.done.items) x.monday → IsExaminedOf x (spans ++ s ∷ []) spans s.past
-    → IsPassOf new base (spans ++ s ∷ [])
+    → AreDone spans past base (map judged_of new.done) x.monday → IsExaminedOf x (spans ++ s ∷ []) spans s.past
+    → HasPassed new base (spans ++ s ∷ [])
 sought_none new s x same at not base past spans next so is =
     stands_now new s spans past next same base
-    (subst (λ (o : Option Examined). AreDone (spans ++ s ∷ []) s.past base (map judged_of new.done.items) (monday_of new.examination o))
-    (sym at) (done_stays spans past s next base x.monday (map judged_of new.done.items) so))
+    (subst (λ (o : Option Examined). AreDone (spans ++ s ∷ []) s.past base (map judged_of new.done) (monday_of new.examination o))
+    (sym at) (done_stays spans past s next base x.monday (map judged_of new.done) so))
     (subst (λ (o : Option Examined). IsStageOf new.examination o (spans ++ s ∷ []) (spans ++ s ∷ []) s.past) (sym at) (record {
       report = is.report;
       before = is.before;
@@ -351,16 +349,16 @@ sought_none new s x same at not base past spans next so is =
     }))
 
 -- or it has one, and an examination begins there
-pub sought_some : (new : StretchPass) (s : Span) (x : Examined) (start : ℕ) (done : List Stretch) (first : Examination)
+pub sought_some : (new : Passing) (s : Span) (x : Examined) (start : ℕ) (done : List Stretch) (first : Examining)
     → new.past ≡ s.past → new.examined ≡ None
-    → new.done.items ≡ done ++ (record { monday = x.monday; report = x.report; unseen = Some start }) ∷ []
+    → new.done ≡ done ++ (record { monday = x.monday; report = x.report; unseen = Some start }) ∷ []
     → IsNextStart (s ∷ []) x.report.horizon.minute (Some start) → first.monday ≡ start → first.minute ≡ start
     → ((spans : List Span) → IsExaminationOf first spans)
     → new.examination.monday ≡ first.monday → new.examination.minute ≡ s.past
     → ((spans : List Span) → IsExaminationOf first spans → EndsBy spans first.minute → s.start ≤ first.minute
     → s.mark.crew ≡ false → IsExaminationOf new.examination (spans ++ s ∷ []))
     → (base past : ℕ) (spans : List Span) → IsNext spans past s → AreDone spans past base (map judged_of done) x.monday
-    → IsExaminedOf x (spans ++ s ∷ []) spans s.past → IsPassOf new base (spans ++ s ∷ [])
+    → IsExaminedOf x (spans ++ s ∷ []) spans s.past → HasPassed new base (spans ++ s ∷ [])
 sought_some new s x start done first same none push begins monday at nothing goes minute taken base past spans next so is =
     let e = new.examination in
     let one : Stretch = record { monday = x.monday; report = x.report; unseen = Some start } in
@@ -368,9 +366,9 @@ sought_some new s x start done first same none push begins monday at nothing goe
     let from = next.from in
     let above = there.0 in
     stands_now new s spans past next same base
-    (subst (λ (o : Option Examined). AreDone (spans ++ s ∷ []) s.past base (map judged_of new.done.items) (monday_of e o)) (sym none)
-    (subst (λ (m : ℕ). AreDone (spans ++ s ∷ []) s.past base (map judged_of new.done.items) m) (sym (goes ∙ monday))
-    (subst (λ (xs : List Judged). AreDone (spans ++ s ∷ []) s.past base xs start) (sym (pushed done new.done.items one push))
+    (subst (λ (o : Option Examined). AreDone (spans ++ s ∷ []) s.past base (map judged_of new.done) (monday_of e o)) (sym none)
+    (subst (λ (m : ℕ). AreDone (spans ++ s ∷ []) s.past base (map judged_of new.done) m) (sym (goes ∙ monday))
+    (subst (λ (xs : List Judged). AreDone (spans ++ s ∷ []) s.past base xs start) (sym (pushed done new.done one push))
     (done_more spans past s next base start (map judged_of done) x (judged_of one) so is begins refl))))
     (subst (λ (o : Option Examined). IsStageOf e o (spans ++ s ∷ []) (spans ++ s ∷ []) s.past) (sym none) (
       omega (arith, minute),
@@ -380,7 +378,7 @@ sought_some new s x start done first same none push begins monday at nothing goe
 -- ---- the end
 
 -- an examination whose minute is at or after the end of all spans ends there, since that minute isn't held
-pub ended_report : {E : Type 0} (result : Result Examined E) (e : Examination)
+pub ended_report : {E : Type 0} (result : Result Examined E) (e : Examining)
     → IfOk result (λ x. (spans : List Span) → IsExaminationOf e spans → mark_at spans e.minute ≡ None → IsReportOf x spans)
     → IfOk result (λ x. (past : ℕ) (spans : List Span) → (past ≤ e.minute) × IsExaminationOf e spans → EndsBy spans past
     → IsReportOf x spans)

@@ -1,5 +1,5 @@
 -- Private to tacho_stretches: What a pass represents, in terms of the spans that it has taken.
-use Rattle.std.specs.Prelude.{◌≡◌, ℕ, ◌+◌, ◌<◌, ◌≤◌, ◌⊎◌, All, false, map, List, ◌++◌, Option, None, Some}
+use Rattle.std.specs.Prelude.{◌≡◌, ℕ, ◌+◌, ◌<◌, ◌≤◌, ◌⊎◌, All, false, map, List, [], ◌++◌, Option, None, Some}
 use Rattle.tacho_time.specs.declared.span.Mark.{Mark}
 use Rattle.tacho_time.specs.declared.span.Span.{Span}
 use Rattle.tacho_time.specs.Spans.{Gives}
@@ -7,10 +7,14 @@ use Rattle.tacho_line.specs.Line.{mark_at, Holds}
 use Rattle.tacho_law.specs.Limits.{latest}
 use Rattle.tacho_law.specs.Line.{Joined, IsBase}
 use Rattle.tacho_rules.specs.Report.{IsReport}
+use Rattle.tacho_pass.specs.declared.found.Found.{Found}
+use Rattle.tacho_rules.specs.declared.scan.Scan.{Scan}
 use Rattle.tacho_rules.specs.Scan.{IsScanOf}
 use Rattle.tacho_stretches.specs.declared.examination.Examination.{Examination}
 use Rattle.tacho_stretches.specs.declared.examination.Examined.{Examined}
+use Rattle.tacho_stretches.specs.declared.found.FoundStretches.{FoundStretches}
 use Rattle.tacho_stretches.specs.declared.pass.StretchPass.{StretchPass}
+use Rattle.tacho_stretches.specs.declared.stretch.Stretch.{Stretch}
 use Rattle.tacho_stretches.specs.Start.{IsNextStart, IsHeld}
 use Rattle.tacho_stretches.specs.Stretches.{Judged, judged_of, first_monday, AreAll}
 
@@ -32,8 +36,18 @@ AgreeBefore past spans line = (m : ℕ) → m < past → mark_at spans m ≡ mar
 
 -- ---- an examination
 
+-- an examination, with what it has found so far
+pub record Examining : Type 0 where
+  pub monday : ℕ
+  pub minute : ℕ
+  pub scan : Scan
+  pub found : Found
+
+abbrev pub examining : Examination → Found → Examining
+examining e found = record { monday = e.monday; minute = e.minute; scan = e.scan; found = found }
+
 -- the scan was fed what the spans hold from the examination's Monday to its minute, and none of it is crew
-pub record IsExaminationOf (e : Examination) (spans : List Span) : Type 0 where
+pub record IsExaminationOf (e : Examining) (spans : List Span) : Type 0 where
   pub is_base : IsBase e.monday
   pub parts : List Span
   pub joined : Joined parts e.monday e.minute
@@ -54,12 +68,12 @@ pub record IsExaminedOf (e : Examined) (spans sought : List Span) (past : ℕ) :
 -- ---- a pass
 
 -- the place of a pass after spans that end by `past`: in an examination, or at the horizon of one
-abbrev pub IsStageOf : Examination → Option Examined → List Span → List Span → ℕ → Type 0
+abbrev pub IsStageOf : Examining → Option Examined → List Span → List Span → ℕ → Type 0
 IsStageOf e None spans sought past = (past ≤ e.minute) × IsExaminationOf e spans
 IsStageOf e (Some x) spans sought past = IsExaminedOf x spans sought past
 
 -- the Monday of the examination at that place
-abbrev pub monday_of : Examination → Option Examined → ℕ
+abbrev pub monday_of : Examining → Option Examined → ℕ
 monday_of e None = e.monday
 monday_of e (Some x) = x.monday
 
@@ -70,15 +84,39 @@ pub record AreDone (spans : List Span) (past base : ℕ) (done : List Judged) (m
   pub all : (line : List Span) (end : ℕ) (rest : List Judged) → AgreeBefore past spans line → first_monday rest ≡ Some monday
       → AreAll line end rest → AreAll line end (done ++ rest)
 
--- the span can be taken next
-pub record CanTake (p : StretchPass) (s : Span) : Type 0 where
-  pub from : p.past ≤ s.start
+-- a pass, with what it has found so far
+pub record Passing : Type 0 where
+  pub done : List Stretch
+  pub examination : Examining
+  pub examined : Option Examined
+  pub past : ℕ
+
+abbrev pub passing : StretchPass → FoundStretches → Passing
+passing p found =
+    record { done = found.done.items; examination = examining p.examination found.found; examined = found.examined; past = p.past }
+
+-- the span can be taken next, after spans that ended by `past`
+pub record IsTakeable (past : ℕ) (s : Span) : Type 0 where
+  pub from : past ≤ s.start
   pub some : s.start < s.past
   pub within : s.past ≤ latest
 
+abbrev pub CanTake : StretchPass → Span → Type 0
+CanTake p s = IsTakeable p.past s
+
 -- the pass has taken these spans, from the base on
-pub record IsPassOf (p : StretchPass) (base : ℕ) (spans : List Span) : Type 0 where
+pub record HasPassed (p : Passing) (base : ℕ) (spans : List Span) : Type 0 where
   pub ended : EndsBy spans p.past
   pub last : (p.past ≤ base) ⊎ ((m : ℕ) × (p.past ≡ m + 1) × IsHeld spans m)
-  pub done : AreDone spans p.past base (map judged_of p.done.items) (monday_of p.examination p.examined)
+  pub done : AreDone spans p.past base (map judged_of p.done) (monday_of p.examination p.examined)
   pub stands : IsStageOf p.examination p.examined spans spans p.past
+
+abbrev pub IsPassOf : StretchPass → FoundStretches → ℕ → List Span → Type 0
+IsPassOf p found base spans = HasPassed (passing p found) base spans
+
+-- nothing was found yet
+pub record HasNothing (found : FoundStretches) : Type 0 where
+  pub done : found.done.items ≡ []
+  pub breaches : found.found.breaches.items ≡ []
+  pub debts : found.found.debts.items ≡ []
+  pub examined : found.examined ≡ None

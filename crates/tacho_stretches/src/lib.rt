@@ -4,12 +4,14 @@
 
 mod end;
 mod examination;
+mod found;
 pub mod laws;
 mod pass;
 mod range;
 mod start;
 mod stretch;
 
+pub use found::FoundStretches;
 pub use pass::StretchPass;
 pub use range::range_of;
 pub use stretch::{Stretch, stretches};

@@ -6,7 +6,7 @@ use std::test::Fail;
 use tacho_law::{Breach, Debt, Kind};
 use tacho_line::{Cause, Horizon, Line};
 use tacho_rules::can_be_examined;
-use tacho_stretches::{Stretch, StretchPass, range_of, stretches};
+use tacho_stretches::{FoundStretches, Stretch, StretchPass, range_of, stretches};
 use tacho_time::Activity::{Drive, Rest, Work};
 use tacho_time::{Activity, GREATEST_MINUTE, Mark, Minute, Span, Week};
 
@@ -223,14 +223,15 @@ fn passed(alloc: Global, line: &Line, base: Minute, spans: &[Span]) -> Result<Ve
     if !can_be_examined(line, base) {
         return Err(Fail::new("a line that can't be examined"));
     }
-    let mut pass = StretchPass::new(alloc, base);
+    let mut pass = StretchPass::new(base);
+    let mut found = FoundStretches::empty(alloc);
     for span in spans {
         if !pass.can_take(span) {
             return Err(Fail::new("a span that can't be taken"));
         }
-        pass.feed(*span)?;
+        pass.feed(*span, &mut found)?;
     }
-    Ok(pass.finish()?)
+    Ok(pass.finish(found)?)
 }
 
 /// Adds a span, cut into pieces of `every` minutes.
@@ -454,28 +455,29 @@ fn minute(number: u32) -> Minute {
     Minute::new(number.min(GREATEST_MINUTE))
 }
 
-/// Returns a pass from the Monday on that was fed one span.
-fn pass_after(alloc: Global, first: Span) -> Result<StretchPass, Fail> {
+/// Returns true if a pass from the Monday on that was fed one span can take another one.
+fn takes_after(alloc: Global, first: Span, next: &Span) -> Result<bool, Fail> {
     let base = at(0);
     if !can_be_examined(&Line::empty(alloc), base) {
         return Err(Fail::new("a base that can't be examined"));
     }
-    let mut pass = StretchPass::new(alloc, base);
+    let mut pass = StretchPass::new(base);
+    let mut found = FoundStretches::empty(alloc);
     if !pass.can_take(&first) {
         return Err(Fail::new("a span that can't be taken"));
     }
-    pass.feed(first)?;
-    Ok(pass)
+    pass.feed(first, &mut found)?;
+    Ok(pass.can_take(next))
 }
 
 #[test]
 fn spans_come_in_order(rt: HostRuntime) -> Result<(), Fail> {
     let first = span(Minute::new(1000), Minute::new(2000), Work, false);
-    let pass = pass_after(rt.alloc(), first)?;
     for &(start, past, wanted) in NEXT {
         for crew in [false, true] {
             let next = span(minute(start), minute(past), Rest, crew);
-            assert!(rt; pass.can_take(&next) == wanted, "of {start} to {past}");
+            let taken = takes_after(rt.alloc(), first, &next)?;
+            assert!(rt; taken == wanted, "of {start} to {past}");
         }
     }
     Ok(())

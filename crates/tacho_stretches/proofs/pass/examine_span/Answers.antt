@@ -1,18 +1,19 @@
 use Rattle.std.proofs.Common.{rules, ◌<◌, ◌≤◌, [], ◌∷◌, ◌++◌, sym, ◌∙◌, arith}
 use Rattle.std.proofs.lemmas.Bool.Decides.{nat_tests}
+use Rattle.tacho_stretches.specs.Pass.{examining}
 use Rattle.tacho_stretches.proofs.PassLemmas.{still, stopped, gap_there, crew_there}
 use Rattle.tacho_stretches.proofs.pass.examine_span.Goals as goal
 
 pub returns-then-le-clause-taken : goal.returns-then-le-clause-taken
 returns-then-le-clause-taken c =
-    let e = c.args.examination.now in
+    let e = examining c.args.examination.now c.args.found.now in
     let s = c.args.span.now in
     let le : s.past ≤ e.minute = search rules in
     λ past spans next is. (le, still e spans (s ∷ []) is.1)
 
 pub returns-then-lt-clause-taken : goal.returns-then-lt-clause-taken
 returns-then-lt-clause-taken c =
-    let e = c.args.examination.now in
+    let e = examining c.args.examination.now c.args.found.now in
     let s = c.args.span.now in
     let lt : e.minute < s.start = search rules in
     λ past spans next is.
@@ -22,7 +23,7 @@ returns-then-lt-clause-taken c =
 
 pub returns-then-span-clause-taken : goal.returns-then-span-clause-taken
 returns-then-span-clause-taken c =
-    let e = c.args.examination.now in
+    let e = examining c.args.examination.now c.args.found.now in
     let s = c.args.span.now in
     let not_before = sym c.lt.ensures ∙ c.if-lt.false in
     let ge : s.start ≤ e.minute = grind (arith, nat_tests, not_before) in
@@ -35,7 +36,7 @@ returns-then-span-clause-taken c =
 
 pub returns-clause-taken : goal.returns-clause-taken
 returns-clause-taken c =
-    let e = c.args.examination.now in
+    let e = examining c.args.examination.now c.args.found.now in
     let s = c.args.span.now in
     let not_before = sym c.lt.ensures ∙ c.if-lt.false in
     let ge : s.start ≤ e.minute = grind (arith, nat_tests, not_before) in

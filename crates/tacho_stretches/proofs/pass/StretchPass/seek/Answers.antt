@@ -1,5 +1,6 @@
 use Rattle.std.proofs.Common.{ℕ, ◌∷◌, [], None, Some, refl, subst}
 use Rattle.tacho_stretches.specs.Start.{IsNextStart}
+use Rattle.tacho_stretches.specs.Pass.{examining}
 use Rattle.tacho_stretches.proofs.PassLemmas.{sought_none, sought_some}
 use Rattle.tacho_stretches.proofs.pass.StretchPass.seek.Goals as goal
 
@@ -10,7 +11,8 @@ returns-in_default-clause-fed c =
 
 pub returns-clause-fed : goal.returns-clause-fed
 returns-clause-fed c =
-    sought_some _ c.args.span.now c.args.examined c.in-Some.start c.args.self.now.done.items c.new.result c.requires.past c.requires.none
+    sought_some _ c.args.span.now c.args.examined c.in-Some.start c.args.found.now.done.items (examining c.new-self.result c.empty.result) c.requires.past c.requires.none
     c.in_ok-push.ensures.items
     (subst (λ (m : ℕ). IsNextStart (c.args.span.now ∷ []) m (Some c.in-Some.start)) c.horizon_of.ensures c.in-Some.ensures)
-    c.new.ensures.monday c.new.ensures.minute c.new.ensures.none c.go_on.ensures.monday c.go_on.ensures.minute c.in_ok-go_on.ensures.taken
+    c.new-self.ensures.monday c.new-self.ensures.minute
+    (c.new-self.ensures.none c.empty.result c.empty.ensures.breaches c.empty.ensures.debts) c.go_on.ensures.monday c.go_on.ensures.minute c.in_ok-go_on.ensures.taken
