@@ -1,5 +1,5 @@
 -- What the readings of `meta` and of the table of schema 1 show.
-use Rattle.std.proofs.Common.{◌≡◌, ◌∙◌, ℕ, pos, true, true≢false, IsTrue, List, [], ◌∷◌, flat_map, map, codes, refl, sym, ap, subst}
+use Rattle.std.proofs.Common.{◌≡◌, ◌∙◌, ℕ, pos, List, [], ◌∷◌, flat_map, map, codes, refl, ap, subst}
 use Rattle.std.specs.List.Sorted.{IsPermutation}
 use Rattle.std.proofs.lemmas.List.Sorted.{IsPermutation-map}
 use Rattle.sqlite_value.specs.declared.value.Value.TheVariants.{Null, Int}
@@ -15,9 +15,8 @@ use Rattle.sqlite_trees.specs.Tree.{Trees}
 use Rattle.sqlite_trees.proofs.ListLemmas.{map-map}
 use Rattle.sqlite_sql.specs.Term.{Term, Env, lit, col, eval_all}
 use Rattle.sqlite_sql.specs.Query.{Query, IsAnswer, output, Output}
-use Rattle.tacho_tables.specs.Schema.{Layout, Made, Carried, archive_schema, has_tables, old_names}
-use Rattle.tacho_tables.specs.Tables.{IsArchive}
-use Rattle.tacho_tables.specs.Ask.{AreFirst, has_old_table, meta_text, old_entries_text, meta_shown, old_entry_shown}
+use Rattle.tacho_tables.specs.Schema.{Layout, Carried, archive_schema}
+use Rattle.tacho_tables.specs.Ask.{AreFirst, meta_text, old_entries_text, meta_shown, old_entry_shown}
 use Rattle.tacho_tables.proofs.Answers.{none_given, simple}
 use Rattle.tacho_tables.proofs.Statements.{IsStatement, stated}
 
@@ -82,12 +81,3 @@ asked_meta layout old new rows same h = asked (archive_schema layout) meta_text 
 pub asked_old_entries : (old new : State) (rows : List Row) → old.now.schema ≡ archive_schema Carried
     → Shown old_entries_text [] old new rows → AreFirst 1 (map old_entry_shown (old.now.trees 8)) rows
 asked_old_entries old new rows same h = asked (archive_schema Carried) old_entries_text 1 8 old_entry_terms _ old_entries_is old new rows same h
-
--- an archive that has the table of schema 1 was migrated
-migrated : (layout : Layout) → has_tables old_names (archive_schema layout) ≡ true → layout ≡ Carried
-unfolding everything
-migrated Made has = absurd (true≢false (sym has))
-migrated Carried has = refl
-
-pub is_migrated : (s : State) (is : IsArchive s.now) → IsTrue (has_old_table s) → is.layout ≡ Carried
-is_migrated s is has = migrated is.layout (subst (λ x. has_tables old_names x ≡ true) is.schema has)

@@ -1,5 +1,5 @@
 -- Private to tacho_tables: Readings of rows as they are stored.
-use Rattle.std.specs.Prelude.{◌≡◌, ℕ, ℤ, Bool, List, [], ◌∷◌, codes, map, take, Result, IfOk, IsPermutation}
+use Rattle.std.specs.Prelude.{◌≡◌, ℕ, ℤ, List, [], ◌∷◌, codes, map, take, Result, IfOk, IsPermutation}
 use Rattle.std.specs.Borrow.{MutBor}
 use Rattle.sqlite.specs.Held.{Held as Connection, state}
 use Rattle.sqlite.specs.Order.{Row, column}
@@ -8,7 +8,7 @@ use Rattle.sqlite.specs.Store.{Ghosts}
 use Rattle.sqlite.specs.Tree.{Trees}
 use Rattle.tacho_tables.specs.declared.table.TableName.{TableName}
 use Rattle.tacho_tables.specs.declared.table.TableName.TheVariants.{Drivers, Downloads, CardSpans, EntryRows, Held}
-use Rattle.tacho_tables.specs.Schema.{Layout, has_tables, old_names}
+use Rattle.tacho_tables.specs.Schema.{Layout, Carried, archive_schema}
 use Rattle.tacho_tables.specs.Tables.{IsArchive}
 use Rattle.tacho_tables.specs.Calls.{Reads}
 use Rattle.tacho_tables.specs.Readable.{IsReadable, own_rows, stored_rows}
@@ -25,9 +25,9 @@ abbrev pub Asks : {S : Type 0} → Ghosts S → MutBor (Connection S) → MutBor
     → (Layout → Trees → A → Type 0) → Type 0
 Asks g old new result fact = Learns g old new result (λ layout db found. IsReadable layout db → fact layout db found)
 
--- there is a table of schema 1
-abbrev pub has_old_table : State → Bool
-has_old_table s = has_tables old_names s.now.schema
+-- the schema is that of an archive that was carried over, which keeps the table of schema 1
+abbrev pub IsCarriedOver : State → Type 0
+IsCarriedOver s = s.now.schema ≡ archive_schema Carried
 
 -- the stored rows of a driver, table by table
 abbrev pub own_in : Layout → Trees → ℤ → TableName → List Row

@@ -13,7 +13,7 @@ use Rattle.sqlite.specs.Change.{created, next_tree, KeepsRows}
 use Rattle.sqlite.specs.Given.{IsPlain}
 use Rattle.sqlite.specs.Effect.{Database}
 use Rattle.sqlite_catalog.specs.Listing.{IsSound}
-use Rattle.tacho_tables.specs.Schema.{Layout, Carried, archive_schema, old_schema, entry_tree, meta_rows, old_entry_tree}
+use Rattle.tacho_tables.specs.Schema.{IsArchiveSchema, Carried, archive_schema, old_schema, entry_tree, meta_rows, old_entry_tree}
 use Rattle.tacho_tables.specs.Rows.{AreRowsOf, OldEntryRow, by_office, entry_columns, old_entry_columns}
 use Rattle.tacho_tables.specs.Tables.{IsVersion}
 use Rattle.sqlite.proofs.Callers.{command_of, statement_of}
@@ -49,7 +49,7 @@ AreEmpty trees db = AllByRecursion (λ t. db t ≡ []) trees
 
 -- the tables are of schema 1 or of schema 2
 abbrev pub IsVersioned : Database → Type 0
-IsVersioned d = (d.schema ≡ old_schema) ⊎ ((layout : Layout) × (d.schema ≡ archive_schema layout))
+IsVersioned d = (d.schema ≡ old_schema) ⊎ IsArchiveSchema d.schema
 
 -- `found` is the version in the row of `meta`, or none if there is no row
 pub record TellsVersion (db : Trees) (found : Option ℕ) : Type 0 where

@@ -1,6 +1,6 @@
 -- Trusted in part: The schemas of the archive, and the SQL that makes their tables. Schema 2 has six tables. Schema 1 has `entries` in the
 -- place of `entry_rows`. An archive that was carried over has both.
-use Rattle.std.specs.Prelude.{true, false, [], ◌∷◌, Option, Some, None, option_and_then, codes, List, length, slice_get, ℕ, pos, Bool, ◌&&◌, ◌==◌, is_some}
+use Rattle.std.specs.Prelude.{◌≡◌, true, false, [], ◌∷◌, Some, None, codes, List, ℕ, pos}
 use Rattle.sqlite.specs.Collation.TheVariants.{Binary}
 use Rattle.sqlite.specs.declared.types.Value.TheVariants.{Null, Int}
 use Rattle.sqlite.specs.Table.{Table}
@@ -11,11 +11,10 @@ use Rattle.sqlite_schema.specs.declared.schema.Column.{Column}
 use Rattle.sqlite_schema.specs.declared.schema.Reference.{Reference}
 use Rattle.sqlite_schema.specs.declared.schema.Action.TheVariants.{NoAction}
 use Rattle.sqlite_value.specs.Keys.{plain}
-use Rattle.sqlite_sql.specs.Term.{lit, col, op2}
+use Rattle.sqlite_sql.specs.Term.{Term, lit, col, op2}
 use Rattle.sqlite_sql.specs.declared.ops.BinaryOp.TheVariants.{Or, Compare}
 use Rattle.sqlite_sql.specs.declared.ops.CompareOp.TheVariants.{Eq}
 use Rattle.sqlite.specs.Change.{created}
-use Rattle.sqlite_schema.specs.Names.{table_named}
 
 -- a column that is NOT NULL
 abbrev pub need : List ℕ → Kind → Column
@@ -98,6 +97,13 @@ spans name = record {
   is_counted = false;
 }
 
+-- the column `withdrawn` has this value; it is 0 or 1
+abbrev pub withdrawn_is : ℕ → Term
+withdrawn_is number = op2 (Compare Eq Binary) (col 1 6) (lit (Int (pos number)))
+
+abbrev pub is_0_or_1 : Term
+is_0_or_1 = op2 Or (withdrawn_is 0) (withdrawn_is 1)
+
 -- the hours entered by hand, their authors and notes
 abbrev pub entry_rows : Table
 entry_rows = record {
@@ -109,7 +115,7 @@ entry_rows = record {
   primary = 1 ∷ 2 ∷ [];
   uniques = (1 ∷ 2 ∷ []) ∷ [];
   orders = plain ∷ [];
-  checks = op2 Or (op2 (Compare Eq Binary) (col 1 6) (lit (Int (pos 0)))) (op2 (Compare Eq Binary) (col 1 6) (lit (Int (pos 1)))) ∷ [];
+  checks = is_0_or_1 ∷ [];
   references = to_driver ∷ [];
   computed = [];
   stamps = record { places = []; terms = []; formats = [] };
@@ -126,7 +132,7 @@ entries = record {
   primary = 1 ∷ 2 ∷ [];
   uniques = (1 ∷ 2 ∷ []) ∷ [];
   orders = plain ∷ [];
-  checks = op2 Or (op2 (Compare Eq Binary) (col 1 6) (lit (Int (pos 0)))) (op2 (Compare Eq Binary) (col 1 6) (lit (Int (pos 1)))) ∷ [];
+  checks = is_0_or_1 ∷ [];
   references = to_driver ∷ [];
   computed = [];
   stamps = record { places = []; terms = []; formats = [] };
@@ -176,33 +182,9 @@ abbrev pub archive_schema : Layout → Schema
 archive_schema Made = created (created with_card_spans entry_rows) (spans (codes "held"))
 archive_schema Carried = created old_schema entry_rows
 
--- the schema has a table of each of these names
-abbrev pub has_tables : List (List ℕ) → Schema → Bool
-has_tables [] schema = true
-has_tables (name ∷ names) schema = is_some (table_named schema name) && has_tables names schema
-
--- the names of the tables that both schemas have, of those of schema 2, and of those of schema 1
-abbrev pub shared_names : List (List ℕ)
-shared_names = codes "meta" ∷ codes "drivers" ∷ codes "downloads" ∷ codes "card_spans" ∷ codes "held" ∷ []
-
-abbrev pub archive_names : List (List ℕ)
-archive_names = codes "entry_rows" ∷ shared_names
-
-abbrev pub old_names : List (List ℕ)
-old_names = codes "entries" ∷ shared_names
-
--- it is a table, and has this many columns
-abbrev pub is_of_width : ℕ → Option Table → Bool
-is_of_width count None = false
-is_of_width count (Some table) = length table.columns == count
-
--- the schema has a table of this name, with this many columns
-abbrev pub has_columns : List ℕ → ℕ → Schema → Bool
-has_columns name count schema = is_of_width count (option_and_then (slice_get schema.tables) (table_named schema name))
-
--- the schema has the tables of schema 2, by name, and `entry_rows` has as many columns as in schema 2
-abbrev pub has_archive_tables : Schema → Bool
-has_archive_tables schema = has_tables archive_names schema && has_columns (codes "entry_rows") 8 schema
+-- the schema is that of an archive of schema 2, as made or as carried over
+abbrev pub IsArchiveSchema : Schema → Type 0
+IsArchiveSchema schema = (layout : Layout) × (schema ≡ archive_schema layout)
 
 -- the tree numbers by which the store knows the rows of each table; an index has a tree too
 abbrev pub meta_rows : ℕ

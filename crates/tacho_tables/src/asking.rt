@@ -1,10 +1,10 @@
 //! Readings of rows as they are stored, whatever they are: those of one driver in each table, the numbers of all drivers, `meta`, and
 //! the table of schema 1.
 
-ghost use Rattle.std.specs.Prelude.{◌≡◌, map, IsTrue};
+ghost use Rattle.std.specs.Prelude.{◌≡◌, map};
 ghost use Rattle.sqlite.specs.Held.{state};
 ghost use Rattle.tacho_tables.specs.Schema.{meta_rows as meta_tree, driver_rows as driver_tree, old_entry_tree};
-ghost use Rattle.tacho_tables.specs.Ask.{Asks, Learns, Show, AreFirst, own_in, shown_of, own_text, number_shown, has_old_table, meta_shown, old_entry_shown};
+ghost use Rattle.tacho_tables.specs.Ask.{Asks, Learns, Show, AreFirst, own_in, shown_of, own_text, number_shown, IsCarriedOver, meta_shown, old_entry_shown};
 
 use crate::fault::TableFault;
 use crate::statement::read;
@@ -59,7 +59,7 @@ pub fn meta_rows<S: Alter>(tx: &mut Transaction<'_, S>) -> Result<Vec<Row>, Tabl
 
 /// Reads the drivers of `entries`, the table of schema 1. One row is enough to know whether there are any.
 pub fn old_entry_rows<S: Alter>(tx: &mut Transaction<'_, S>) -> Result<Vec<Row>, TableFault>
-    requires { IsTrue (has_old_table (state S.Store tx.old.conn.now)) }
+    requires { IsCarriedOver (state S.Store tx.old.conn.now) }
     ensures { Learns S.Store tx.old.conn tx.new.conn result
         (λ layout db found. AreFirst 1 (map old_entry_shown (db old_entry_tree)) found.items) }
 {

@@ -11,6 +11,8 @@ pub mod held;
 pub mod making;
 pub mod opening;
 mod rows;
+mod schema;
+mod shape;
 pub mod spans;
 pub mod statement;
 mod table;
