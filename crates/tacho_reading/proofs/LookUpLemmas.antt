@@ -4,7 +4,7 @@ use Rattle.std.specs.Prelude.{Contains, MatchOption, is_some, ok_or, IsErr, IsEr
 use Rattle.sqlite.specs.Tree.{Trees}
 use Rattle.tacho_state.specs.declared.fault.StoreFault.{StoreFault}
 use Rattle.tacho_state.specs.declared.fault.StoreFault.TheVariants.{Memory, Store, UnknownDriver}
-use Rattle.tacho_state.specs.Acts.{Answers}
+use Rattle.tacho_state.specs.Acts.{Answers, IsOfNoFile}
 use Rattle.tacho_state.specs.Distinct.{AreDistinct}
 use Rattle.tacho_state.specs.State.{Driver, State, driver_of}
 use Rattle.tacho_state.specs.Steps.{known_driver}
@@ -68,6 +68,12 @@ answers_given_up view Memory told up = tt
 answers_given_up view Store told up = tt
 answers_given_up view fault told up = absurd up
 
+-- what is told is this fault
+pub is_told : {B : Type 0} (fault : StoreFault) (told : Result B StoreFault) → told ≡ Err fault → IsFindingFault fault told
+is_told Memory told is = tt
+is_told Store told is = tt
+is_told fault told is = is
+
 -- what is told instead has the same fault
 pub finding_as : {A B : Type 0} (fault : StoreFault) (told : Result A StoreFault) (other : Result B StoreFault)
     → (told ≡ Err fault → other ≡ Err fault) → IsFindingFault fault told → IsFindingFault fault other
@@ -82,6 +88,21 @@ pub driver_found : (n : ℕ) (s : State) (found : Option StoredDriver) → IsOfD
     → IsDriver s n (ok_or found UnknownDriver)
 driver_found n s None none = record { found = tt; refused = ap known_driver none }
 driver_found n s (Some it) h = record { found = h; refused = tt }
+
+-- the fault of a look-up that found nothing is S4, and not of a card file
+pub unknown_told : {X : Type 0} (is : X → Driver → Type 0) (o : Option Driver) (found : Option X) (fault : StoreFault)
+    → IsOfDriver is o found → Err fault ≡ ok_or found UnknownDriver → known_driver o ≡ Err fault
+unknown_told is o None fault none e = ap known_driver none ∙ (let same : UnknownDriver ≡ fault = (let both = e in cc) in ap Err same)
+unknown_told is o (Some x) fault some e = absurd (let both = e in cc)
+
+pub unknown_no_file : {X : Type 0} (found : Option X) → IsOfNoFile (ok_or found UnknownDriver)
+unknown_no_file None = tt
+unknown_no_file (Some x) = tt
+
+-- a look-up that answered found something
+pub was_found : {X : Type 0} (found : Option X) (x : X) → Ok x ≡ ok_or found UnknownDriver → found ≡ Some x
+was_found None x e = absurd (let both = e in cc)
+was_found (Some y) x e = let same : y ≡ x = (let both = e in cc) in ap Some same
 
 -- a step that answers S4 if nobody has the number is refused as the look-up was
 pub unknown_refuses : {A : Type 0} (n : ℕ) (s : State) (fault : StoreFault) (told : Result A StoreFault)

@@ -1,10 +1,11 @@
 -- What readings answer, from what look-ups find.
-use Rattle.std.proofs.Common.{◌≡◌, ◌∙◌, ℕ, List, [], filter, Option, Some, None, Result, Ok, Err, refl, sym, ap}
-use Rattle.std.specs.Prelude.{MatchOption, MatchResult, Contains, ok_or}
+use Rattle.std.proofs.Common.{◌≡◌, ◌∙◌, ℕ, List, [], filter, Option, Some, None, Result, Ok, Err, refl, sym, ap, subst}
+use Rattle.std.specs.Prelude.{MatchOption, MatchResult, Contains, Vec, ok_or}
+use Rattle.std.specs.declared.alloc.Global.{Global}
 use Rattle.sqlite.specs.Tree.{Trees}
 use Rattle.tacho_state.specs.declared.fault.StoreFault.{StoreFault}
 use Rattle.tacho_state.specs.declared.fault.StoreFault.TheVariants.{UnknownDriver, UnknownDownload}
-use Rattle.tacho_state.specs.Acts.{Answers}
+use Rattle.tacho_state.specs.Acts.{Answers, IsOfNoFile}
 use Rattle.tacho_state.specs.State.{Driver, State, driver_of, driver_with_key, download_from}
 use Rattle.tacho_state.specs.Steps.{reading_of, owner, key_reading, file_of, file_reading}
 use Rattle.tacho_tables.specs.Rows.{DownloadRow}
@@ -46,3 +47,16 @@ file_told db n number s (Some it) d is (t, stand, of) h =
     let row = h t stand in
     ap (reading_of (λ (d : Driver). file_of (download_from 1 number d.downloads))) is ∙ download_some t s n number d row.0 of is row.1
     ∙ ap Ok (sym row.3)
+
+-- so a result by what was found is the answer of the reading
+pub file_answered : (found : Option StoredFile) (r : Result (Vec ℕ Global) StoreFault) (told : Result (List ℕ) StoreFault)
+    → MatchOption found (r ≡ Err UnknownDownload) (λ it. r ≡ Ok it.file)
+    → MatchOption found (told ≡ Err UnknownDownload) (λ it. told ≡ Ok it.file.items) → Answers (λ (bytes : Vec ℕ Global). bytes.items) r told
+file_answered None r told is h = subst (λ u. Answers (λ (bytes : Vec ℕ Global). bytes.items) u told) (sym is) h
+file_answered (Some it) r told is h = subst (λ u. Answers (λ (bytes : Vec ℕ Global). bytes.items) u told) (sym is) h
+
+-- and not of a card file
+pub file_no_file : (found : Option StoredFile) (r : Result (Vec ℕ Global) StoreFault)
+    → MatchOption found (r ≡ Err UnknownDownload) (λ it. r ≡ Ok it.file) → IsOfNoFile r
+file_no_file None r is = subst IsOfNoFile (sym is) tt
+file_no_file (Some it) r is = subst IsOfNoFile (sym is) tt

@@ -21,9 +21,8 @@ use Rattle.std.proofs.Common.{arith}
 use Rattle.std.proofs.lemmas.Bool.Decides.{nat_tests}
 use Rattle.tacho_line.specs.Line.{AgreeWithin, covers, mark_at}
 use Rattle.tacho_line.proofs.LineLemmas.{held_given}
-use Rattle.tacho_stretches.specs.Pass.{IsPassOf}
+use Rattle.tacho_stretches.specs.Pass.{HasPassed, Passing}
 use Rattle.tacho_stretches.specs.Stretches.{Judged, AreStretches}
-use Rattle.tacho_stretches.specs.declared.pass.StretchPass.{StretchPass}
 use Rattle.tacho_stretches.proofs.MarkLemmas.{by_marks}
 use Rattle.tacho_state.specs.State.{Driver, State, held_spans}
 use Rattle.tacho_state.specs.Reported.{AreStretchesOf, IsHeldWithin}
@@ -46,25 +45,25 @@ use Rattle.tacho_reading.proofs.TakenLemmas.{HasGivenNext, IsSteady, given_none,
 -- ---- the loop
 
 -- no spans were taken
-taken_on_none : (pass : StretchPass) → HasTakenOn pass pass []
-taken_on_none pass = record { fed = λ base before is. subst (IsPassOf pass base) (sym (append-nil before)) is }
+taken_on_none : (pass : Passing) → HasTakenOn pass pass []
+taken_on_none pass = record { fed = λ base before is. subst (HasPassed pass base) (sym (append-nil before)) is }
 
 -- spans were taken, and then others
-taken_on_then : (was mid pass : StretchPass) (xs ys : List Span) → HasTakenOn was mid xs → HasTakenOn mid pass ys
+taken_on_then : (was mid pass : Passing) (xs ys : List Span) → HasTakenOn was mid xs → HasTakenOn mid pass ys
     → HasTakenOn was pass (xs ++ ys)
 taken_on_then was mid pass xs ys h k = record {
-  fed = λ base before is. subst (IsPassOf pass base) (append_assoc before xs ys) (k.fed base (before ++ xs) (h.fed base before is));
+  fed = λ base before is. subst (HasPassed pass base) (append_assoc before xs ys) (k.fed base (before ++ xs) (h.fed base before is));
 }
 
 -- the rows so far were taken, and those near the range were kept
-pub record IsTaking {S : Type 0} (g : Ghosts S) (old now : Held S) (start past : ℕ) (was pass : StretchPass)
+pub record IsTaking {S : Type 0} (g : Ghosts S) (old now : Held S) (start past : ℕ) (was pass : Passing)
     (before near : List StoredSpan) : Type 0 where
   pub spans : List StoredSpan
   pub taken : HasTakenOn was pass (map stored_span spans)
   pub kept : near ≡ before ++ filter (is_stored_near start past) spans
   pub given : HasCleanDisk (state g now) → IsSteady (state g old) (state g now) × HasGivenNext g old now spans
 
-pub taking_none : {S : Type 0} (g : Ghosts S) (old : Held S) (start past : ℕ) (pass : StretchPass) (before : List StoredSpan)
+pub taking_none : {S : Type 0} (g : Ghosts S) (old : Held S) (start past : ℕ) (pass : Passing) (before : List StoredSpan)
     → IsTaking g old old start past pass pass before before
 taking_none g old start past pass before = record {
   spans = [];
@@ -73,7 +72,7 @@ taking_none g old start past pass before = record {
   given = λ clean. (steady_self (state g old), given_none g old);
 }
 
-module _ {S : Type 0} (g : Ghosts S) (old mid new : Held S) (start past : ℕ) (was pass : StretchPass) (before near : List StoredSpan)
+module _ {S : Type 0} (g : Ghosts S) (old mid new : Held S) (start past : ℕ) (was pass : Passing) (before near : List StoredSpan)
     (h : IsTaking g old mid start past was pass before near)
     (early : HasCleanDisk (state g new) → HasCleanDisk (state g mid))
     (same : HasCleanDisk (state g new) → IsUnchanged (state g mid) (state g new)) where
@@ -82,7 +81,7 @@ module _ {S : Type 0} (g : Ghosts S) (old mid new : Held S) (start past : ℕ) (
   taking_steady clean = steady_then (state g old) (state g mid) (state g new) (h.given (early clean)).0 (same clean)
 
   -- one more row is taken
-  pub taking_more : (row : StoredSpan) (next : StretchPass) (after : List StoredSpan)
+  pub taking_more : (row : StoredSpan) (next : Passing) (after : List StoredSpan)
       → (HasCleanDisk (state g new) → GivesNext g mid new (Some row)) → HasTakenOn pass next (stored_span row ∷ [])
       → after ≡ near ++ filter (is_stored_near start past) (row ∷ []) → IsTaking g old new start past was next before after
   taking_more row next after gives took keeps = record {
@@ -109,12 +108,12 @@ module _ {S : Type 0} (g : Ghosts S) (old mid new : Held S) (start past : ℕ) (
 
 -- ---- a driver's rows
 
-module _ {S : Type 0} (g : Ghosts S) (driver first start past : ℕ) (all : List SpanRow) (old new : Held S) (was : StretchPass)
+module _ {S : Type 0} (g : Ghosts S) (driver first start past : ℕ) (all : List SpanRow) (old new : Held S) (was : Passing)
     (before : List StoredSpan)
     (archive : IsArchive (state g old).now) (stands : AreRowsOf span_columns ((state g old).now.trees 10) all)
     (given : HasGiven g onward_text (Int (pos driver) ∷ Int (pos first) ∷ []) old []) where
   -- a pass that took the query's rows took the driver's rows
-  took_held : (pass : StretchPass) (near : List StoredSpan) → HasTakenRows g old new start past was pass before near
+  took_held : (pass : Passing) (near : List StoredSpan) → HasTakenRows g old new start past was pass before near
       → HasTakenHeld driver first start past all was pass before near
   took_held pass near t =
       let it = t.ended onward_text (Int (pos driver) ∷ Int (pos first) ∷ []) [] given in
@@ -135,7 +134,7 @@ module _ {S : Type 0} (g : Ghosts S) (driver first start past : ℕ) (all : List
         none_left taken (x ∷ others) shown e none = absurd (let wrong = none in cc)
 
   -- likewise if the call succeeded
-  pub took_all : {U : Type 0} (r : Result U StoreFault) (pass : StretchPass) (near : List StoredSpan)
+  pub took_all : {U : Type 0} (r : Result U StoreFault) (pass : Passing) (near : List StoredSpan)
       → OnOk r (HasTakenRows g old new start past was pass before near)
       → OnOk r (HasTakenHeld driver first start past all was pass before near)
   took_all (Ok u) pass near t = took_held pass near t
@@ -164,10 +163,10 @@ marks_are line other m same = go (mark_at line m) refl (mark_at other m) refl wh
   go None e (Some k) f = absurd (let some = given_some line m k ((same k).1 f) in let wrong = sym e ∙ some.1 in cc)
 
 -- what a pass found from the driver's rows are the stretches of what the driver holds
-pub stretches_told : (db : Trees) (n start past : ℕ) (s : State) (b : Beginning) (was pass : StretchPass) (before near : List StoredSpan)
-    (found : List Judged) → Represents db s → IsBegun db n start s b → IsPassOf was b.base []
+pub stretches_told : (db : Trees) (n start past : ℕ) (s : State) (b : Beginning) (was pass : Passing) (before near : List StoredSpan)
+    (found : List Judged) → Represents db s → IsBegun db n start s b → HasPassed was b.base []
     → ((t : Tables) → HasTables db t → HasTakenHeld n b.start start past t.held was pass before near)
-    → ((base : ℕ) (spans : List Span) → IsPassOf pass base spans → AreStretches spans base found)
+    → ((base : ℕ) (spans : List Span) → HasPassed pass base spans → AreStretches spans base found)
     → AreStretchesOf n s found
 unfolding Represents
 stretches_told db n start past s b was pass before near found (t, stand, of) begun none takes finds =
@@ -236,7 +235,7 @@ near_read n first start past rows onward le same =
     (IsPermutation-map span_of (filter (is_row_near n start past) rows) (filter near onward) kept)
 
 -- their line is what the driver holds in the range
-pub line_told : (db : Trees) (n start past : ℕ) (s : State) (b : Beginning) (was pass : StretchPass) (before near : List StoredSpan)
+pub line_told : (db : Trees) (n start past : ℕ) (s : State) (b : Beginning) (was pass : Passing) (before near : List StoredSpan)
     (line : List Span) → Represents db s → IsBegun db n start s b → before ≡ []
     → ((t : Tables) → HasTables db t → HasTakenHeld n b.start start past t.held was pass before near)
     → IsCanonicalOf (Gives (map stored_span near)) line → IsHeldWithin n start past s line

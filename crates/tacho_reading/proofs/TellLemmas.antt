@@ -25,7 +25,7 @@ use Rattle.tacho_reading.specs.Faults.{fault_of_tables}
 use Rattle.tacho_reading.specs.Finding.{IsDriver, IsFindingFault, IsFound}
 use Rattle.tacho_reading.specs.Kept.{HasGivenUp}
 use Rattle.tacho_reading.specs.Standing.{Represents}
-use Rattle.tacho_reading.proofs.LookUpLemmas.{found_on, handed_on, unknown_refuses}
+use Rattle.tacho_reading.proofs.LookUpLemmas.{found_on, handed_on, is_told, unknown_refuses}
 use Rattle.tacho_reading.proofs.ReadingLemmas.{nobody}
 use Rattle.tacho_reading.proofs.SeenLemmas.{still_archive, still_seen}
 
@@ -38,7 +38,7 @@ answered_as A B Store h = h
 answered_as A B (Card fault) h = h
 answered_as A B f h = tt
 
-no_file_as : (A B : Type 0) (f : StoreFault) → IsOfNoFile {A = A} (Err f) → IsOfNoFile {A = B} (Err f)
+pub no_file_as : (A B : Type 0) (f : StoreFault) → IsOfNoFile {A = A} (Err f) → IsOfNoFile {A = B} (Err f)
 no_file_as A B (Card fault) h = h
 no_file_as A B f h = tt
 
@@ -248,3 +248,13 @@ module _ {S : Type 0} {g : Ghosts S} {old new : MutBor (Held S)} where
       → ((db : Trees) (s : State) → Represents db s → first db s → IsFindingFault fault (told db s))
       → Tells g old new r (λ db s. IsFound (is db s) (told db s) r)
   found_handed {r = r} h e more = tells_handed h e (λ db s stands first. found_on _ _ _ r (more db s stands first) e)
+
+  -- a refusal that an answer decides
+  pub found_refused : {A B C : Type 0} {x : A} {fault : StoreFault} {r : Result B StoreFault} {first : Trees → State → Type 0}
+      {is : Trees → State → B → Type 0} {told : Trees → State → Result C StoreFault} → Tells g old new (Ok x) first
+      → IsErr r × IsErrAnd r (λ found. found ≡ fault) → IsOfNoFile {A = A} (Err fault)
+      → ((db : Trees) (s : State) → Represents db s → first db s → told db s ≡ Err fault)
+      → Tells g old new r (λ db s. IsFound (is db s) (told db s) r)
+  found_refused {A = A} {fault = fault} h e no_file more =
+      found_handed (tells_as {B = A} {r = Err fault} h no_file (λ db s stands found. found)) e
+      (λ db s stands found. is_told fault _ (more db s stands found))

@@ -6,8 +6,7 @@ use Rattle.sqlite.specs.Order.{Row}
 use Rattle.sqlite.specs.State.{Shown}
 use Rattle.sqlite.specs.Store.{Ghosts}
 use Rattle.tacho_time.specs.declared.span.Span.{Span}
-use Rattle.tacho_stretches.specs.declared.pass.StretchPass.{StretchPass}
-use Rattle.tacho_stretches.specs.Pass.{IsPassOf}
+use Rattle.tacho_stretches.specs.Pass.{HasPassed, Passing}
 use Rattle.tacho_tables.specs.declared.rows.StoredSpan.{StoredSpan}
 use Rattle.tacho_tables.specs.Next.{AreOnward}
 use Rattle.tacho_tables.specs.Rows.{SpanRow}
@@ -16,8 +15,8 @@ use Rattle.tacho_reading.specs.Standing.{row_span, stored_span}
 use Rattle.tacho_reading.specs.Taken.{AreTold}
 
 -- the pass took these spans, after those that it had taken before
-pub record HasTakenOn (was pass : StretchPass) (spans : List Span) : Type 0 where
-  pub fed : (base : ℕ) (before : List Span) → IsPassOf was base before → IsPassOf pass base (before ++ spans)
+pub record HasTakenOn (was pass : Passing) (spans : List Span) : Type 0 where
+  pub fed : (base : ℕ) (before : List Span) → HasPassed was base before → HasPassed pass base (before ++ spans)
 
 -- a stored row that has a minute in a range
 abbrev pub is_stored_near : ℕ → ℕ → StoredSpan → Bool
@@ -25,7 +24,7 @@ is_stored_near start past s = nat_lt s.start past && nat_lt start s.past
 
 -- the pass took the spans of all remaining rows of a query; the rows that have a minute in the range were kept, after the rows that were
 -- kept before
-pub record HasTakenRows {S : Type 0} (g : Ghosts S) (old new : Held S) (start past : ℕ) (was pass : StretchPass)
+pub record HasTakenRows {S : Type 0} (g : Ghosts S) (old new : Held S) (start past : ℕ) (was pass : Passing)
     (before near : List StoredSpan) : Type 0 where
   pub spans : List StoredSpan
   pub taken : HasTakenOn was pass (map stored_span spans)
@@ -35,7 +34,7 @@ pub record HasTakenRows {S : Type 0} (g : Ghosts S) (old new : Held S) (start pa
       × (last : Held S) × ((state g last).now ≡ (state g old).now) × Shown sql params (state g last) (state g new) (given ++ rows)
 
 -- the pass took the driver's rows that begin at `first` or later, in order; those that have a minute in the range were kept
-pub record HasTakenHeld (driver first start past : ℕ) (rows : List SpanRow) (was pass : StretchPass)
+pub record HasTakenHeld (driver first start past : ℕ) (rows : List SpanRow) (was pass : Passing)
     (before near : List StoredSpan) : Type 0 where
   pub onward : List SpanRow
   pub are_onward : AreOnward driver first rows onward

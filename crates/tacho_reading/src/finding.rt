@@ -1,6 +1,6 @@
 //! Look-ups of drivers, in terms of the state.
 
-ghost use Rattle.std.specs.Prelude.{◌≡◌, MatchResult};
+ghost use Rattle.std.specs.Prelude.{◌≡◌, MatchResult, ok_or};
 ghost use Rattle.tacho_state.specs.State.{driver_of, driver_with_key, holding};
 ghost use Rattle.tacho_reading.specs.Calls.{Tells};
 ghost use Rattle.tacho_reading.specs.Finding.{IsDriver, IsNumberOf, IsOfDriver, IsStored};
@@ -44,6 +44,13 @@ pub fn number_with_holder<S: Alter>(
     drivers::number_by_holder(tx, holder).map_err(store_fault)
 }
 
+/// Returns what a look-up of a driver found: S4 if it found nobody.
+pub fn known<T>(found: Option<T>) -> Result<T, StoreFault>
+    ensures { result ≡ ok_or found StoreFault.UnknownDriver }
+{
+    found.ok_or(StoreFault::UnknownDriver)
+}
+
 /// Reads the driver with this number: S4.
 pub fn driver_with<S: Alter>(
     tx: &mut Transaction<'_, S>,
@@ -52,5 +59,5 @@ pub fn driver_with<S: Alter>(
     ensures { Tells S.Store tx.old.conn tx.new.conn result (λ _ s. IsDriver s number result) }
 {
     let found = stored_with(tx, number)?;
-    found.ok_or(StoreFault::UnknownDriver)
+    known(found)
 }

@@ -1,4 +1,4 @@
-ghost use Rattle.std.specs.Prelude.{◌≡◌, ◌≤◌, false, IfOk, Ok, map, string_bytes};
+ghost use Rattle.std.specs.Prelude.{◌≡◌, ◌≤◌, false, Err, IfOk, MatchOption, Ok, map, string_bytes};
 ghost use Rattle.sqlite.specs.State.{HasCleanDisk};
 ghost use Rattle.sqlite.specs.Held.{state};
 ghost use Rattle.tacho_line.specs.Line.{mark_at};
@@ -16,7 +16,7 @@ ghost use Rattle.tacho_reading.specs.Begun.{IsBegun};
 
 use crate::fault::store_fault;
 use crate::feeding::feed_held;
-use crate::finding::{driver_with, number_with_key};
+use crate::finding::{driver_with, known, number_with_key};
 use crate::near::{first_start, line_near};
 use crate::read_within;
 use crate::spans::{line_of_stored, listed_entries, summaries_of, summary_of};
@@ -28,8 +28,8 @@ use tacho_pass::Found;
 use tacho_rules::limits::LATEST;
 use tacho_rules::{Report, Scan};
 use tacho_state::{DriverSummary, Entry, StoreFault, base_of};
-use tacho_stretches::{Stretch, StretchPass};
-use tacho_tables::{SpanTable, downloads, drivers, entries, held, spans};
+use tacho_stretches::{FoundStretches, Stretch, StretchPass};
+use tacho_tables::{SpanTable, StoredFile, downloads, drivers, entries, held, spans};
 use tacho_time::{GREATEST_MINUTE, Minute};
 
 /// Reads the number of the driver with this key, within a transaction.
@@ -102,7 +102,7 @@ fn key_in<S: Alter>(tx: &mut Transaction<'_, S>, driver: u32) -> Result<String, 
         (λ _ s. Answers (λ key. string_bytes key) result (key_reading driver s)) }
 {
     let found = drivers::secret_of(tx, driver).map_err(store_fault)?;
-    found.ok_or(StoreFault::UnknownDriver)
+    known(found)
 }
 
 /// Reads a driver's key: S4.
@@ -132,6 +132,16 @@ pub fn name<S: Alter>(conn: &mut Connection<S>, driver: u32) -> Result<String, S
     read_within!(conn, tx, name_in(&mut tx, driver))
 }
 
+/// Returns the bytes of the download that a look-up found: S10 if it found none.
+fn known_file(found: Option<StoredFile>) -> Result<Vec<u8>, StoreFault>
+    ensures { MatchOption found (result ≡ Err StoreFault.UnknownDownload) (λ stored. result ≡ Ok stored.file) }
+{
+    let Some(stored) = found else {
+        return Err(StoreFault::UnknownDownload);
+    };
+    Ok(stored.file)
+}
+
 /// Reads the bytes of a driver's download, within a transaction: S4, S10.
 fn download_in<S: Alter>(
     tx: &mut Transaction<'_, S>,
@@ -143,10 +153,7 @@ fn download_in<S: Alter>(
 {
     driver_with(tx, driver)?;
     let found = downloads::file(tx, driver, number).map_err(store_fault)?;
-    let Some(stored) = found else {
-        return Err(StoreFault::UnknownDownload);
-    };
-    Ok(stored.file)
+    known_file(found)
 }
 
 /// Reads the bytes of a driver's download: S4, S10.
@@ -361,11 +368,14 @@ pub fn line_and_stretches<S: Alter>(
         → IfOk result (λ found. AreStretchesOf driver s (map judged_of found.1.items)) }
 {
     let Beginning { base, start: first } = begin(conn, driver, start)?;
-    let mut pass = StretchPass::new(alloc, base);
+    let mut pass = StretchPass::new(base);
+    let mut found = FoundStretches::empty(alloc);
     let mut near = Vec::new(alloc);
-    take_held(conn, driver, first, start, past, &mut pass, &mut near)?;
+    take_held(
+        conn, driver, first, start, past, &mut pass, &mut found, &mut near,
+    )?;
     let line = line_of_stored(alloc, &near)?;
-    Ok((line, pass.finish()?))
+    Ok((line, pass.finish(found)?))
 }
 
 /// Returns what a driver holds from the base on, and the driver's stretches: S4. Reads no row that ends before the base.

@@ -55,8 +55,9 @@ pub fn spans_of(alloc: Global, rows: &[StoredSpan]) -> Result<Vec<Span>, StoreFa
 
 /// Returns the fault of stored rows, from the fault of their spans.
 pub fn fault_of_rows(fault: SpanFault) -> StoreFault
-    ensures { OrMemory StoreFault.Memory result
+    ensures cause { OrMemory StoreFault.Memory result
         ((result ≡ StoreFault.Store) × ((minute : ℕ) × (fault ≡ SpanFault.Contradiction minute))) }
+    ensures contradiction { (minute : ℕ) → fault ≡ SpanFault.Contradiction minute → result ≡ StoreFault.Store }
 {
     match fault {
         SpanFault::Contradiction(_) => StoreFault::Store,

@@ -7,6 +7,7 @@ ghost use Rattle.tacho_tables.specs.Tables.{Tables, HasTables, IsArchive};
 ghost use Rattle.tacho_reading.specs.Kept.{HasGivenUp};
 ghost use Rattle.tacho_reading.specs.Standing.{stored_span};
 ghost use Rattle.tacho_reading.specs.Taken.{ReadsRows, ReadsSettled};
+ghost use Rattle.tacho_stretches.specs.Pass.{passing};
 ghost use Rattle.tacho_reading.specs.Stretching.{HasTakenOn, HasTakenRows, HasTakenHeld, is_stored_near};
 
 use crate::fault::store_fault;
@@ -14,13 +15,17 @@ use crate::spans::span_of;
 use sqlite::{Alter, Connection, Rows};
 use std::alloc::AllocError;
 use tacho_state::StoreFault;
-use tacho_stretches::StretchPass;
+use tacho_stretches::{FoundStretches, StretchPass};
 use tacho_tables::{StoredSpan, held, next_span};
 use tacho_time::Minute;
 
 /// Feeds the pass the span of one row. A row that no archive writes, or that begins before the last one ended, is a store failure.
-fn take(row: &StoredSpan, pass: &mut StretchPass) -> Result<(), StoreFault>
-    ensures took { OnOk result (HasTakenOn pass.old pass.new (stored_span row.now ∷ [])) }
+fn take(
+    row: &StoredSpan,
+    pass: &mut StretchPass,
+    found: &mut FoundStretches,
+) -> Result<(), StoreFault>
+    ensures took { OnOk result (HasTakenOn (passing pass.old found.old) (passing pass.new found.new) (stored_span row.now ∷ [])) }
     ensures refused { IfErr result HasGivenUp }
 {
     let Some(span) = span_of(row) else {
@@ -29,7 +34,7 @@ fn take(row: &StoredSpan, pass: &mut StretchPass) -> Result<(), StoreFault>
     if !pass.can_take(&span) {
         return Err(StoreFault::Store);
     }
-    pass.feed(span)?;
+    pass.feed(span, found)?;
     Ok(())
 }
 
@@ -54,19 +59,20 @@ fn take_rows<S: Alter>(
     start: Minute,
     past: Minute,
     pass: &mut StretchPass,
+    found: &mut FoundStretches,
     near: &mut Vec<StoredSpan>,
 ) -> Result<(), StoreFault>
     ensures reads { ReadsRows S.Store result rows.old.conn rows.new.conn }
     ensures refused { IfErr result HasGivenUp }
     ensures took { HasCleanDisk (state S.Store rows.new.conn.now)
-        → OnOk result (HasTakenRows S.Store rows.old.conn.now rows.new.conn.now start past pass.old pass.new near.old.items near.new.items) }
+        → OnOk result (HasTakenRows S.Store rows.old.conn.now rows.new.conn.now start past (passing pass.old found.old) (passing pass.new found.new) near.old.items near.new.items) }
 {
     'rows: for _ in 0..u64::MAX {
         let next = next_span(rows).map_err(store_fault)?;
         let Some(row) = next else {
             return Ok(());
         };
-        take(&row, pass)?;
+        take(&row, pass, found)?;
         keep(&row, start, past, near)?;
     }
     Err(StoreFault::Store)
@@ -81,6 +87,7 @@ pub fn take_held<S: Alter>(
     start: Minute,
     past: Minute,
     pass: &mut StretchPass,
+    found: &mut FoundStretches,
     near: &mut Vec<StoredSpan>,
 ) -> Result<(), StoreFault>
     requires settled { conn.old.in_transaction ≡ false }
@@ -88,7 +95,7 @@ pub fn take_held<S: Alter>(
     ensures refused { IfErr result HasGivenUp }
     ensures took { HasCleanDisk (state S.Store conn.new) → IsArchive (state S.Store conn.old).now
         → (t : Tables) → HasTables (state S.Store conn.old).now.trees t
-        → OnOk result (HasTakenHeld driver first start past t.held pass.old pass.new near.old.items near.new.items) }
+        → OnOk result (HasTakenHeld driver first start past t.held (passing pass.old found.old) (passing pass.new found.new) near.old.items near.new.items) }
 {
     // For the proof alone: nothing is pending, so what is seen is what was committed.
     let _settled = conn.is_autocommit();
@@ -96,5 +103,5 @@ pub fn take_held<S: Alter>(
         Ok(rows) => rows,
         Err(_) => return Err(StoreFault::Store),
     };
-    take_rows(&mut rows, start, past, pass, near)
+    take_rows(&mut rows, start, past, pass, found, near)
 }

@@ -36,10 +36,7 @@ macro_rules! act_within {
             },
             Err(fault) => {
                 $tx.rollback();
-                match $crate::opening::ask($conn) {
-                    Ok(()) => Err(fault),
-                    Err(failed) => Err($crate::fault::store_fault(failed)),
-                }
+                Err($crate::fault::undone(fault, $crate::opening::ask($conn)))
             }
         }
     }};

@@ -6,7 +6,7 @@ use Rattle.tacho_reading.proofs.finding.driver_with.Goals as goal
 
 pub returns : goal.returns
 returns g c = tells_as c.in_ok-found.ensures (search rules)
-    (λ db s stands found. subst (IsDriver s c.args.number) (sym c.ok_or.ensures.value) (driver_found c.args.number s c.in_ok-found.found found))
+    (λ db s stands found. subst (IsDriver s c.args.number) (sym c.known.ensures) (driver_found c.args.number s c.in_ok-found.found found))
 
 pub returns-in_err-found : goal.returns-in_err-found
 returns-in_err-found g c = tells_handed c.in_err-found.ensures c.from_residual.ensures

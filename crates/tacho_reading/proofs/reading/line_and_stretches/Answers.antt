@@ -1,5 +1,6 @@
 use Rattle.std.proofs.Common.{rules, map}
 use Rattle.sqlite.specs.Held.{state}
+use Rattle.tacho_stretches.specs.Pass.{passing}
 use Rattle.tacho_stretches.specs.Stretches.{judged_of}
 use Rattle.tacho_reading.proofs.StretchingLemmas.{line_told, stretches_told}
 use Rattle.tacho_reading.proofs.TimelineLemmas.{gave_up_as, not_answered}
@@ -28,7 +29,7 @@ returns-clause-within g c clean s shows =
     let reads = c.in_ok-base.ensures.reads in
     let holds = reads.state clean_1 s shows (reads.live clean_1 tt) in
     line_told (state g.S.Store c.begin.new.conn).now.trees c.args.driver c.args.start c.args.past s c.in_ok-base.field-0
-    c.new-pass.result c.take_held.new.pass c.new-near.result.items c.take_held.new.near.items c.in_ok-line.line holds.1
+    (passing c.new-pass.result c.empty-found.result) (passing c.take_held.new.pass c.take_held.new.found) c.new-near.result.items c.take_held.new.near.items c.in_ok-line.line holds.1
     (c.in_ok-base.ensures.begun clean_1 s shows) c.new-near.ensures.items
     (λ t stand. c.in_ok-take_held.ensures.took clean holds.0 t stand) (rw c.deref.ensures.value at c.in_ok-line.ensures.line)
 
@@ -38,6 +39,6 @@ returns-clause-stretches g c clean s shows =
     let reads = c.in_ok-base.ensures.reads in
     let holds = reads.state clean_1 s shows (reads.live clean_1 tt) in
     stretches_told (state g.S.Store c.begin.new.conn).now.trees c.args.driver c.args.start c.args.past s c.in_ok-base.field-0
-    c.new-pass.result c.take_held.new.pass c.new-near.result.items c.take_held.new.near.items
-    (map judged_of c.in_ok-finish.field-0.items) holds.1 (c.in_ok-base.ensures.begun clean_1 s shows) c.new-pass.ensures.none
+    (passing c.new-pass.result c.empty-found.result) (passing c.take_held.new.pass c.take_held.new.found) c.new-near.result.items c.take_held.new.near.items
+    (map judged_of c.in_ok-finish.field-0.items) holds.1 (c.in_ok-base.ensures.begun clean_1 s shows) (c.new-pass.ensures.none c.empty-found.result c.empty-found.ensures)
     (λ t stand. c.in_ok-take_held.ensures.took clean holds.0 t stand) c.in_ok-finish.ensures.stretches
