@@ -8,15 +8,15 @@ use Rattle.tacho_state.specs.State.{State}
 use Rattle.tacho_tables.proofs.CatalogLemmas.{is_archive}
 use Rattle.tacho_reading.specs.Standing.{Represents}
 use Rattle.tacho_reading.specs.Kept.{SeesWhileOpen, IsOfOne, LeavesOneOf}
-use Rattle.tacho_store.specs.Opening.{IsKnown, IsAdopted}
+use Rattle.tacho_store.specs.Opening.{IsAdopted}
 
 -- a connection that shows what an earlier one showed sees the state that the earlier one's tables represented
 pub shows_found : (old new : Sqlite) → IsLive old → (IsTrue new.is_open → IsTrue old.is_open)
-    → (IsTrue new.is_open → IsKnown old → new.now ≡ old.now) → (s : State) → Represents old.now.trees s → SeesWhileOpen new s
+    → (IsTrue new.is_open → new.now ≡ old.now) → (s : State) → Represents old.now.trees s → SeesWhileOpen new s
 unfolding Represents
 shows_found old new live was_open same s it opened =
     let has = is_archive old.now it.0 it.1 (live (was_open opened)).0 in
-    subst (λ (d : Database). IsArchive d × Represents d.trees s) (sym (same opened (inl (inr (has.layout, has.schema))))) (has, it)
+    subst (λ (d : Database). IsArchive d × Represents d.trees s) (sym (same opened)) (has, it)
 
 -- if one fact implies another, and the first is true of one of some states, the second is too
 one_weaker : (fact other : State → Type 0) → ((s : State) → fact s → other s) → (states : List State) → IsOfOne fact states

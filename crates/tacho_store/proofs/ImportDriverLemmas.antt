@@ -1,5 +1,5 @@
 -- The driver for whom an import is, by what look-ups find.
-use Rattle.std.proofs.Common.{◌≡◌, ◌∙◌, ℕ, List, length, Bool, true, false, cond, not, Option, Some, None, Ok, Err, refl, sym, ap}
+use Rattle.std.proofs.Common.{◌≡◌, ◌∙◌, ℕ, List, length, Bool, true, false, cond, Option, Some, None, Ok, Err, sym, ap}
 use Rattle.std.specs.Prelude.{bytes_eq}
 use Rattle.tacho_state.specs.declared.fault.StoreFault.{StoreFault}
 use Rattle.tacho_state.specs.declared.fault.StoreFault.TheVariants.{UnknownDriver, NotYourCard}
@@ -10,16 +10,6 @@ use Rattle.tacho_tables.specs.declared.rows.StoredDriver.{StoredDriver}
 use Rattle.tacho_reading.specs.Finding.{IsFindingFault, IsNumberOf, IsStored}
 use Rattle.tacho_reading.proofs.LookUpLemmas.{finding_as}
 use Rattle.tacho_store.specs.Importing.{with_card, importer, IsImporterOf}
-
--- if it isn't different, it is the same
-pub not_other : (b other : Bool) → other ≡ not b → other ≡ false → b ≡ true
-not_other true other is no_other = refl
-not_other false other is no_other = (let both = sym is ∙ no_other in cc)
-
--- if it is different, it isn't the same
-pub is_other : (b other : Bool) → other ≡ not b → other ≡ true → b ≡ false
-is_other true other is said = (let both = sym is ∙ said in cc)
-is_other false other is said = refl
 
 -- ---- by number
 

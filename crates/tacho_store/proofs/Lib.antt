@@ -1,6 +1,7 @@
 mod RegistrationTablesLemmas
 mod ImportTablesLemmas
 mod WithdrawalTablesLemmas
+mod RefusalLemmas
 mod RegistrationLemmas
 mod OwnLemmas
 mod WithdrawnLemmas

@@ -9,9 +9,11 @@ use Rattle.sqlite.specs.Store.{Ghosts}
 use Rattle.sqlite.specs.Held.{Held, state}
 use Rattle.sqlite.specs.Tree.{Trees}
 use Rattle.tacho_tables.specs.declared.fault.TableFault.{TableFault}
+use Rattle.tacho_tables.specs.declared.fault.TableFault.TheVariants as table
 use Rattle.tacho_tables.specs.Tables.{HasTables, IsArchive, Tables}
 use Rattle.tacho_state.specs.declared.fault.StoreFault.{StoreFault}
-use Rattle.tacho_state.specs.Acts.{Answers, IsOfNoFile}
+use Rattle.tacho_state.specs.declared.fault.StoreFault.TheVariants as store
+use Rattle.tacho_state.specs.Acts.{Answers, IsAnswered, IsOfNoFile}
 use Rattle.tacho_state.specs.State.{State, driver_of}
 use Rattle.tacho_state.specs.Steps.{Own, Turn, own_turn}
 use Rattle.tacho_tables.specs.Calls.{Changes, Stays}
@@ -230,3 +232,25 @@ pub undone_keeps : {S : Type 0} (g : Ghosts S) (old new : Held S) (s : State) (n
     → (state g new).now ≡ (state g old).now → KeepsRowsOf n (state g old).now.trees (state g new).now.trees
 undone_keeps g old new s n stands same =
     subst (λ (d : Database). KeepsRowsOf n (state g old).now.trees d.trees) (sym same) (kept_rows n (state g old).now.trees s stands)
+
+-- the fault that is answered then is the step's, or the store's, which was asked
+pub undone_answers : {A B : Type 0} (view : A → B) (told : Result B StoreFault) (fault undone : StoreFault) (asked : Result (Unit {0}) TableFault)
+    → MatchResult asked (λ _. undone ≡ fault) (λ failed. undone ≡ fault_of_tables failed) → Answers view (Err fault) told
+    → Answers view (Err undone) told
+undone_answers view told fault undone (Ok x) is h = subst (λ f. Answers view (Err f) told) (sym is) h
+undone_answers view told fault undone (Err table.Memory) is h = subst (λ f. Answers view (Err f) told) (sym is) tt
+undone_answers view told fault undone (Err table.Store) is h = subst (λ f. Answers view (Err f) told) (sym is) tt
+
+-- a refusal is the step's if the call answers as the step does wherever it answers
+if_answered : {A B : Type 0} (view : A → B) (told : Result B StoreFault) (fault : StoreFault) → IsOfNoFile {A = A} (Err fault)
+    → (IsAnswered {A = A} (Err fault) → Answers view (Err fault) told) → Answers view (Err fault) told
+if_answered view told store.Memory none h = tt
+if_answered view told store.Store none h = tt
+if_answered view told (store.Card fault) none h = absurd none
+if_answered view told fault none h = h tt
+
+pub answers_if : {A B : Type 0} (view : A → B) (told : Result B StoreFault) (r : Result A StoreFault) (fault : StoreFault) → r ≡ Err fault
+    → IsOfNoFile r → (IsAnswered r → Answers view r told) → Answers view (Err fault) told
+answers_if {A = A} view told r fault is none h =
+    if_answered view told fault (subst (λ (q : Result A StoreFault). IsOfNoFile q) is none)
+    (λ x. subst (λ (q : Result A StoreFault). Answers view q told) is (h (subst (λ (q : Result A StoreFault). IsAnswered q) (sym is) x)))

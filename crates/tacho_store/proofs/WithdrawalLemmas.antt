@@ -1,5 +1,5 @@
 -- What a withdrawal answers, and what the tables represent after its writes.
-use Rattle.std.proofs.Common.{◌≡◌, ◌≢◌, ◌∙◌, ℕ, ◌++◌, Bool, true, false, cond, List, [], map, filter, Option, Some, None, Result, Ok, Err, not, refl, sym, ap, subst, arith}
+use Rattle.std.proofs.Common.{◌≡◌, ◌≢◌, ◌∙◌, ◌==◌, ℕ, ◌++◌, Bool, true, false, cond, List, [], map, filter, Option, Some, None, Result, Ok, Err, not, refl, sym, ap, subst, arith}
 use Rattle.std.specs.Borrow.{MutBor}
 use Rattle.std.specs.Prelude.{Contains, IfOk, MatchOption, MatchResult, OnOk}
 use Rattle.std.proofs.lemmas.Result.{IfOk-weaker, on_ok_weaker}
@@ -13,6 +13,7 @@ use Rattle.tacho_time.specs.Spans.{Gives, IsCanonicalOf}
 use Rattle.tacho_line.specs.Line.{IsWithin}
 use Rattle.tacho_state.specs.declared.fault.StoreFault.{StoreFault}
 use Rattle.tacho_state.specs.declared.fault.StoreFault.TheVariants.{UnknownDriver, UnknownEntry, AlreadyWithdrawn}
+use Rattle.tacho_state.specs.Acts.{IsOfNoFile}
 use Rattle.tacho_state.specs.Disjoint.{outside}
 use Rattle.tacho_state.specs.State.{Driver, Entry, State, driver_of, entry_from, put, with_marked}
 use Rattle.tacho_state.specs.Steps.{withdraw_step}
@@ -22,6 +23,7 @@ use Rattle.tacho_tables.specs.declared.fault.TableFault.{TableFault}
 use Rattle.tacho_tables.specs.Calls.{Changes, Finds}
 use Rattle.tacho_tables.specs.Rows.{EntryRow, SpanRow}
 use Rattle.tacho_tables.specs.Tables.{IsArchive, Tables, HasTables, Turns, is_entry, is_row_near, ListedEntry, listed_entry, told_entry, row_of}
+use Rattle.tacho_state.proofs.EqualLemmas.{eq_false, eq_true}
 use Rattle.tacho_reading.specs.Standing.{Represents, TablesRepresent, span_row, stored_span, entry_row}
 use Rattle.tacho_reading.specs.Calls.{ChangesWhere}
 use Rattle.tacho_reading.specs.Apart.{AreRowsApart, driver_rows}
@@ -31,7 +33,7 @@ use Rattle.tacho_reading.proofs.MappedLemmas.{was_ok}
 use Rattle.tacho_reading.proofs.SeenLemmas.{still_archive}
 use Rattle.tacho_tables.proofs.CallLemmas.{stays_then}
 use Rattle.tacho_store.specs.After.{with_renewed}
-use Rattle.tacho_store.specs.Withdrawing.{IsThere, AreRowsFor, AreRenewed, IsRenewed, with_mark}
+use Rattle.tacho_store.specs.Withdrawing.{IsEntry, IsThere, AreRowsFor, AreRenewed, IsRenewed, with_mark}
 use Rattle.tacho_store.proofs.WithdrawalTablesLemmas.{withdrawn_is}
 use Rattle.tacho_store.proofs.JoinLemmas.{renewed, is_renewed}
 use Rattle.tacho_store.proofs.StepsLemmas.{keeps_changed}
@@ -110,6 +112,29 @@ module _ (n number : ℕ) (s : State) (d : Driver) (it : StoredEntry) (is : driv
       row = row;
     },
   )
+
+-- a refusal for what was found, or the entry
+pub entry_told : (n number : ℕ) (s : State) (d : Driver) → driver_of n s ≡ Some d → (found : Option StoredEntry)
+    → (r : Result StoredEntry StoreFault)
+    → MatchOption found (r ≡ Err UnknownEntry) (λ it. r ≡ cond (it.withdrawn == 0) (Ok it) (Err AlreadyWithdrawn))
+    → MatchOption found (entry_from 1 number d.entries ≡ None)
+    (λ it. (e : Entry) × (entry_from 1 number d.entries ≡ Some e) × (told_entry it ≡ listed_entry (entry_row n number e)))
+    → IsEntry s n number r
+entry_told n number s d is None r decided none =
+    subst (IsEntry s n number) (sym decided) (record { found = tt; refused = no_entry n number s d is none })
+entry_told n number s d is (Some it) r decided there = subst (IsEntry s n number) (sym decided) (go (it.withdrawn == 0) refl) where
+  go : (b : Bool) → (it.withdrawn == 0) ≡ b → IsEntry s n number (cond b (Ok it) (Err AlreadyWithdrawn))
+  go true kept = record { found = entry_kept n number s d it is (eq_true it.withdrawn 0 kept) there; refused = tt }
+  go false gone = record { found = tt; refused = entry_gone n number s d it is (eq_false it.withdrawn 0 gone) there }
+
+-- it isn't of a card file
+pub kept_no_file : (found : Option StoredEntry) (r : Result StoredEntry StoreFault)
+    → MatchOption found (r ≡ Err UnknownEntry) (λ it. r ≡ cond (it.withdrawn == 0) (Ok it) (Err AlreadyWithdrawn)) → IsOfNoFile r
+kept_no_file None r decided = subst IsOfNoFile (sym decided) tt
+kept_no_file (Some it) r decided = subst IsOfNoFile (sym decided) (go (it.withdrawn == 0)) where
+  go : (b : Bool) → IsOfNoFile (cond b (Ok it) (Err AlreadyWithdrawn))
+  go true = tt
+  go false = tt
 
 -- an entry that isn't withdrawn is withdrawn by the step
 pub entry_marked : (n number : ℕ) (s : State) (it : StoredEntry) → (d : Driver) × (e : Entry) × IsThere s n number it d e

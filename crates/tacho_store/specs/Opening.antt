@@ -10,9 +10,9 @@ use Rattle.sqlite_catalog.specs.Listing.{IsSound}
 use Rattle.tacho_state.specs.declared.fault.StoreFault.{StoreFault}
 use Rattle.tacho_state.specs.declared.fault.StoreFault.TheVariants.{OldSchema}
 use Rattle.tacho_state.specs.State.{State}
-use Rattle.tacho_tables.specs.Schema.{current_version, old_schema, old_version, meta_rows, has_tables, has_archive_tables, old_names}
+use Rattle.tacho_tables.specs.Schema.{IsArchiveSchema, current_version, old_schema, old_version, meta_rows}
 use Rattle.tacho_tables.specs.Making.{IsVersioned, TellsVersion}
-use Rattle.tacho_tables.specs.Tables.{IsVersion}
+use Rattle.tacho_tables.specs.Tables.{IsArchive, IsVersion}
 use Rattle.tacho_tables.specs.Calls.{Stays}
 use Rattle.tacho_reading.specs.Standing.{Represents}
 use Rattle.tacho_reading.specs.Kept.{IsBlank, HasGivenUp, Sees, LeavesOneOf}
@@ -24,29 +24,11 @@ pub record Makes {S : Type 0} (g : Ghosts S) (old new : MutBor (Held S)) {A : Ty
   pub keeps : HasCleanDisk (state g new.now) → KeepsCommit (state g old.now) (state g new.now)
   pub made : HasCleanDisk (state g new.now) → IsBlank (state g old.now) → OnOk result (Sees (state g new.now) [])
 
--- the connection's own schema is 1 or 2, or has no table
-abbrev pub IsKnown : Sqlite → Type 0
-IsKnown c = IsVersioned c.now ⊎ IsBlank c
-
--- the stored tables are those of schema 1 or of schema 2, whatever their rows
-abbrev pub AreVersioned : Trees → Type 0
-AreVersioned db = (schema : Schema) × IsVersioned (record { schema = schema; trees = db }) × IsSound schema db
-
--- the store has tables with the names of schema 1, which represent no state of schema 2; if they are of schema 1 or 2, they state a
--- version, and it is 1
+-- the store has schema 1, and states a version, which is 1
 pub record IsOld (c : Sqlite) : Type 0 where
-  pub tables : ¬ IsBlank c
-  pub names : IsTrue (has_tables old_names c.now.schema)
-  pub none : (s : State) → ¬ Represents c.now.trees s
-  pub stated : AreVersioned c.now.trees → c.now.trees meta_rows ≢ []
-  pub version : AreVersioned c.now.trees → (version : ℕ) → IsVersion version c.now.trees → version ≡ old_version
-
--- the store has tables with the names of schema 1; if the connection's own schema is 1 or 2, they state a version, and it is 1
-pub record IsFoundOld (c : Sqlite) : Type 0 where
-  pub tables : ¬ IsBlank c
-  pub names : IsTrue (has_tables old_names c.now.schema)
-  pub stated : IsVersioned c.now → c.now.trees meta_rows ≢ []
-  pub version : IsVersioned c.now → (version : ℕ) → IsVersion version c.now.trees → version ≡ old_version
+  pub schema : c.now.schema ≡ old_schema
+  pub stated : c.now.trees meta_rows ≢ []
+  pub version : (version : ℕ) → IsVersion version c.now.trees → version ≡ old_version
 
 -- the faults with which a store isn't adopted
 abbrev pub IsOpeningFault : StoreFault → Type 0
@@ -66,23 +48,10 @@ module _ (old new : Sqlite) where
     pub same : HasCleanDisk new → IsTrue new.is_open → new.now ≡ old.now
     pub crash : IsBlank old → Survives old new (λ db. Represents db [])
 
-  -- the tables of an archive, of either version, or a store without tables, are as they were
-  pub record KeepsTables : Type 0 where
-    pub stands : (s : State) → Represents old.now.trees s → HasCleanDisk new → IsTrue new.is_open → new.now ≡ old.now
-    pub stood : (s : OldState) → StoodFor old.now.trees s → HasCleanDisk new → IsTrue new.is_open → new.now ≡ old.now
-    pub blank : IsBlank old → HasCleanDisk new → IsTrue new.is_open → new.now ≡ old.now
-    pub same : AreVersioned old.now.trees → HasCleanDisk new → IsTrue new.is_open → new.now ≡ old.now
-
   -- nothing has changed, and a crash leaves what it would have left before the call
   pub record IsLeftAlone : Type 0 where
     pub was_open : HasCleanDisk new → IsTrue new.is_open → IsTrue old.is_open
-    pub keeps : KeepsTables
-    pub survives : Survives old new (λ _. ⊥)
-
-  -- likewise if the connection's own schema is known
-  pub record IsFoundAlone : Type 0 where
-    pub was_open : HasCleanDisk new → IsTrue new.is_open → IsTrue old.is_open
-    pub same : HasCleanDisk new → IsTrue new.is_open → IsKnown old → new.now ≡ old.now
+    pub same : HasCleanDisk new → IsTrue new.is_open → new.now ≡ old.now
     pub survives : Survives old new (λ _. ⊥)
 
   module _ {A : Type 0} (result : Result A StoreFault) where
@@ -96,16 +65,14 @@ module _ (old new : Sqlite) where
       pub kept : HasCleanDisk new → IsBlank old → OnOk result (LeavesOneOf new ([] ∷ []))
       pub crash : IsBlank old → Survives old new (λ db. Represents db [])
 
-    -- tables of schema 2 were found; nothing has changed
+    -- the schema of an archive and its version were found; nothing has changed
     pub record IsChecked : Type 0 where
-      pub alone : IsFoundAlone
+      pub alone : IsLeftAlone
       pub live : HasCleanDisk new → OnOk result (IsTrue new.is_open)
-      pub names : OnOk result (IsTrue (has_archive_tables old.now.schema))
-      pub missing : HasCleanDisk new → IsBlank old → IsErr result
-      pub stated : HasCleanDisk new → IsVersioned old.now → OnOk result (old.now.trees meta_rows ≢ [])
-      pub version : HasCleanDisk new → IsVersioned old.now → (version : ℕ) → IsVersion version old.now.trees
-          → OnOk result (version ≡ current_version)
-      pub is_old : HasCleanDisk new → result ≡ Err OldSchema → IsTrue new.is_open × IsFoundOld old
+      pub schema : OnOk result (IsArchiveSchema old.now.schema)
+      pub stated : HasCleanDisk new → OnOk result (old.now.trees meta_rows ≢ [])
+      pub version : HasCleanDisk new → (version : ℕ) → IsVersion version old.now.trees → OnOk result (version ≡ current_version)
+      pub is_old : HasCleanDisk new → result ≡ Err OldSchema → IsTrue new.is_open × IsOld old
 
     -- tables of schema 1 were migrated, or nothing has changed; a crash leaves what it would have left before the call, or the migrated
     -- tables
@@ -130,14 +97,13 @@ module _ (old new : Sqlite) where
     pub version : HasCleanDisk new → IsVersioned old.now → IfOk result (TellsVersion old.now.trees)
     pub missing : HasCleanDisk new → IsBlank old → IsErr result
 
-  -- an archive that was not migrated is as it was; a crash leaves what it would have left before the call, or the archive of schema 1
-  -- migrated
+  -- What was not migrated is as it was. A crash leaves what it would have left before the call, or an archive of schema 1 migrated.
   pub record IsNotMigrated : Type 0 where
     pub was_open : HasCleanDisk new → IsTrue new.is_open → IsTrue old.is_open
-    pub keeps : KeepsTables
+    pub same : HasCleanDisk new → IsTrue new.is_open → new.now ≡ old.now
     pub crash : (s : OldState) → StoodFor old.now.trees s → Survives old new (λ db. Represents db (with_office s))
     pub alone : (s : State) → Represents old.now.trees s → Survives old new (λ _. ⊥)
-    pub blank : IsBlank old → Survives old new (λ _. ⊥)
+    pub other : old.now.schema ≢ old_schema → Survives old new (λ _. ⊥)
 
 -- ---- archives, for any way of keeping them
 
@@ -148,18 +114,16 @@ module _ {K : Type 0} (stands : K → State → Type 0) (is_live : K → Type 0)
     pub live : is_live archive
     pub left : leaves archive ([] ∷ [])
 
-  -- the archive of schema 2 that the store had; until it is changed, a crash leaves it as it was
+  -- the archive of schema 2 that the store had, with its version; until it is changed, a crash leaves it as it was
   pub record IsAdopted (old : Sqlite) (archive : K) : Type 0 where
     pub was_open : IsTrue old.is_open
     pub held : (s : State) → Represents old.now.trees s → stands archive s
     pub live : is_live archive
     pub left : (states : List State) → LeavesOneOf old states → leaves archive states
     pub rests : (s : State) → Represents old.now.trees s → leaves archive (s ∷ [])
-    pub found : ¬ IsBlank old
-    pub names : IsTrue (has_archive_tables old.now.schema)
-    pub none : (s : OldState) → ¬ StoodFor old.now.trees s
-    pub stated : AreVersioned old.now.trees → old.now.trees meta_rows ≢ []
-    pub version : AreVersioned old.now.trees → (version : ℕ) → IsVersion version old.now.trees → version ≡ current_version
+    pub schema : IsArchive old.now
+    pub stated : old.now.trees meta_rows ≢ []
+    pub version : (version : ℕ) → IsVersion version old.now.trees → version ≡ current_version
 
   -- the archive that the store had: of schema 1, with the office as the author of its entries, or of schema 2, as it was; until it is
   -- changed, a crash leaves it as it is
@@ -170,5 +134,4 @@ module _ {K : Type 0} (stands : K → State → Type 0) (is_live : K → Type 0)
     pub kept : (s : OldState) → StoodFor old.now.trees s → leaves archive (with_office s ∷ [])
     pub left : (s : State) → Represents old.now.trees s → (states : List State) → LeavesOneOf old states → leaves archive states
     pub rests : (s : State) → Represents old.now.trees s → leaves archive (s ∷ [])
-    pub found : ¬ IsBlank old
-    pub names : IsTrue (has_archive_tables old.now.schema) ⊎ IsTrue (has_tables old_names old.now.schema)
+    pub schema : IsArchive old.now ⊎ (old.now.schema ≡ old_schema)

@@ -1,7 +1,9 @@
-ghost use Rattle.std.specs.Prelude.{◌≡◌, ◌≢◌, ◌↔◌, [], List, false, IsTrue, IfOk, IfErr, IsErr};
+ghost use Rattle.std.specs.Prelude.{◌≡◌, ◌≢◌, ◌↔◌, [], List, false, Err, IsTrue, IfOk, IfErr, IsErr};
 ghost use Rattle.sqlite.specs.State.{HasCleanDisk};
 ghost use Rattle.sqlite.specs.Held.{state};
 ghost use Rattle.tacho_state.specs.State.{State};
+ghost use Rattle.tacho_state.specs.declared.fault.StoreFault.TheVariants.{Store};
+ghost use Rattle.tacho_tables.specs.Making.{IsVersioned};
 ghost use Rattle.tacho_reading.specs.Kept.{IsBlank, SeesWhileOpen, LeavesOneOf, IsSame, HasGivenUp};
 ghost use Rattle.tacho_store.specs.Opening.{Makes, CarriesOver, IsMade, IsUnmade, TellsSchema, IsChecked, IsCarried, IsEmptyArchive, IsAdopted, IsLeftAlone, IsOld, IsOpeningFault, IsMigrated, IsNotMigrated};
 
@@ -83,16 +85,19 @@ fn read_version<S: Alter>(conn: &mut Connection<S>) -> Result<Option<u32>, Store
     making::version(&mut tx).map_err(store_fault)
 }
 
-/// Checks that a store has tables of schema 2, and changes nothing. Fails with S13 if they are of schema 1, and with S12 if there are
-/// others or one is missing.
+/// Checks that a store has schema 2 and its version, and changes nothing. Fails with S13 if it has schema 1 and that version, and with S12
+/// if its schema is another: then no statement runs.
 fn check<S: Alter>(conn: &mut Connection<S>) -> Result<(), StoreFault>
     requires { conn.old.in_transaction ≡ false }
     ensures autocommit { conn.new.in_transaction ≡ false }
     ensures refused { IfErr result IsOpeningFault }
     ensures checked { IsChecked (state S.Store conn.old) (state S.Store conn.new) result }
+    ensures unknown { ¬ IsVersioned (state S.Store conn.old).now → (result ≡ Err Store) × (conn.new ≡ conn.old) }
 {
-    let has_archive = opening::has_archive(conn);
-    let has_old_archive = opening::has_old_archive(conn);
+    let is_current = opening::has_archive(conn);
+    if !is_current && !opening::has_old_archive(conn) {
+        return Err(StoreFault::Store);
+    }
     // For the proof alone: nothing is pending, so what is seen is what was committed.
     let _settled = conn.is_autocommit();
     opening::ask(conn).map_err(store_fault)?;
@@ -101,8 +106,8 @@ fn check<S: Alter>(conn: &mut Connection<S>) -> Result<(), StoreFault>
     let _settled = conn.is_autocommit();
     opening::ask(conn).map_err(store_fault)?;
     match version {
-        Some(CURRENT_VERSION) if has_archive => Ok(()),
-        Some(OLD_VERSION) if has_old_archive => Err(StoreFault::OldSchema),
+        Some(CURRENT_VERSION) if is_current => Ok(()),
+        Some(OLD_VERSION) if !is_current => Err(StoreFault::OldSchema),
         _ => Err(StoreFault::Store),
     }
 }
@@ -126,12 +131,13 @@ fn carry<S: Alter>(conn: &mut Connection<S>) -> Result<(), StoreFault>
 }
 
 impl<S: Alter> Archive<S> {
-    ghost use Rattle.std.specs.Prelude.{◌≡◌, ◌≢◌, ◌↔◌, [], List, false, IsTrue, IfOk, IfErr, IsErr};
+    ghost use Rattle.std.specs.Prelude.{◌≡◌, ◌≢◌, ◌↔◌, [], List, false, Err, IsTrue, IfOk, IfErr, IsErr};
     ghost use Rattle.sqlite.specs.State.{HasCleanDisk};
     ghost use Rattle.sqlite.specs.Held.{state};
     ghost use Rattle.tacho_state.specs.State.{State};
+    ghost use Rattle.tacho_tables.specs.Making.{IsVersioned};
     ghost use Rattle.tacho_reading.specs.Kept.{IsBlank, SeesWhileOpen, LeavesOneOf, HasGivenUp};
-    ghost use Rattle.tacho_state.specs.declared.fault.StoreFault.TheVariants.{OldSchema};
+    ghost use Rattle.tacho_state.specs.declared.fault.StoreFault.TheVariants.{OldSchema, Store};
     ghost use Rattle.tacho_store.specs.Opening.{IsUnmade, IsEmptyArchive, IsAdopted, IsLeftAlone, IsOld, IsOpeningFault, IsMigrated, IsNotMigrated};
 
     /// Makes an archive without drivers in a store without tables, in one transaction. Fails with S12 if the store has tables. On failure
@@ -152,8 +158,8 @@ impl<S: Alter> Archive<S> {
         }
     }
 
-    /// Opens the archive of a store. Fails with S13 if its tables are of schema 1, and with S12 if the store has no tables, or others. On
-    /// failure the connection is returned; an archive's tables, of either version, or a store without tables, are as they were.
+    /// Opens the archive of a store. Fails with S13 if the store has schema 1, and with S12 if it has another schema than 1 and 2, or none. On
+    /// failure the connection is returned, with the store as it was.
     pub fn adopt(mut conn: Connection<S>) -> Result<Archive<S>, (StoreFault, Connection<S>)>
         requires { conn.in_transaction ≡ false }
         ensures adopted { IfOk result (λ archive. ⟦<Archive<S> as Keeper>⟧.is_clean archive
@@ -161,6 +167,7 @@ impl<S: Alter> Archive<S> {
             ⟦<Archive<S> as Keeper>⟧.leaves (state S.Store conn) archive) }
         ensures refused { IfErr result (λ e. IsOpeningFault e.0 × (e.1.in_transaction ≡ false)
             × IsLeftAlone (state S.Store conn) (state S.Store e.1)) }
+        ensures unknown { ¬ IsVersioned (state S.Store conn).now → result ≡ Err (Store, conn) }
         ensures old { IfErr result (λ e. HasCleanDisk (state S.Store e.1) → e.0 ≡ OldSchema
             → IsTrue (state S.Store e.1).is_open × IsOld (state S.Store conn)) }
     {
@@ -186,9 +193,8 @@ impl<S: Alter> Archive<S> {
             ⟦<Archive<S> as Keeper>⟧.leaves (state S.Store conn) archive) }
         ensures refused { IfErr result (λ e. HasGivenUp e.0 × (e.1.in_transaction ≡ false)
             × IsNotMigrated (state S.Store conn) (state S.Store e.1)) }
+        ensures unknown { ¬ IsVersioned (state S.Store conn).now → result ≡ Err (Store, conn) }
     {
-        // For the proof alone: the schema that the connection has read is that of the stored tables.
-        let _sound = conn.schema();
         match Self::adopt(conn) {
             Ok(archive) => Ok(archive),
             Err((StoreFault::OldSchema, mut conn)) => match carry(&mut conn) {

@@ -13,6 +13,7 @@ ghost use Rattle.tacho_reading.specs.Standing.{entry_row, rows_of_entries};
 ghost use Rattle.tacho_store.specs.Entering.{AreNumbered, AreToEnter, enter_turn, tables_after_batch};
 
 use crate::news::gains_of;
+use crate::refusals::numbers_from;
 use sqlite::{Alter, Connection, Transaction};
 use std::alloc::{AllocError, Global};
 use tacho_reading::act_within;
@@ -20,7 +21,7 @@ use tacho_reading::fault::store_fault;
 use tacho_reading::finding::driver_with;
 use tacho_reading::near::line_near;
 use tacho_reading::spans::{stored, stored_row};
-use tacho_state::{Entered, EntryLine, StoreFault, first_number};
+use tacho_state::{Entered, EntryLine, StoreFault};
 use tacho_tables::entries::NewEntry;
 use tacho_tables::{SpanTable, StoredSpan, TableFault, drivers, entries, spans};
 use tacho_time::{Mark, Span};
@@ -153,12 +154,8 @@ fn add_batch<S: Alter>(
         (λ done. done.first) (enter_turn lines.now) }
     ensures count { IfOk result (λ done. done.count ≡ length lines.now) }
 {
-    let Ok(count) = u32::try_from(lines.len()) else {
-        return Err(StoreFault::Full);
-    };
-    let Some(first) = first_number(given, count) else {
-        return Err(StoreFault::Full);
-    };
+    let first = numbers_from(given, lines.len())?;
+    let count = lines.len() as u32;
     let helds = stored(alloc, gains)?;
     write_batch(tx, driver, first, given + count, lines, &helds).map_err(store_fault)?;
     Ok(Entered { first, count })

@@ -1,5 +1,7 @@
-ghost use Rattle.std.specs.Prelude.{◌≡◌, ◌≢◌, false, map, IfOk, IfErr, IfSome, IsNone};
+ghost use Rattle.std.specs.Prelude.{◌≡◌, ◌≢◌, false, map, Err, IfOk, IfErr, IfSome, IsNone};
+ghost use Rattle.tacho_card.specs.declared.file.Part.{Part};
 ghost use Rattle.tacho_state.specs.Content.{HasContent};
+ghost use Rattle.tacho_state.specs.Numbers.{part_number};
 ghost use Rattle.tacho_state.specs.Files.{files_reading, listed_file, told_file};
 ghost use Rattle.tacho_state.specs.State.{Driver, driver_of};
 ghost use Rattle.tacho_state.specs.Steps.{Content};
@@ -36,6 +38,7 @@ fn summary_of(alloc: Global, number: u32, stored: &StoredFile) -> Result<FileSum
           spans = content.spans;
         })) }
     ensures refused { IfErr result HasGivenUp }
+    ensures part { ((part : Part) → part_number part ≢ stored.now.part) → result ≡ Err StoreFault.Store }
     ensures cause { result ≡ Err StoreFault.Store → (content : Content)
         → ¬ HasContent stored.now.part stored.now.file.items content }
 {

@@ -15,15 +15,16 @@ ghost use Rattle.tacho_reading.specs.Kept.{ActsOn, SeesWhileOpen, IsSame};
 ghost use Rattle.tacho_store.specs.Importing.{importer, IsImporter, AreDecided, AreToAdd, AreToImport, import_turn, content_told, tables_after_download};
 
 use crate::news::{News, news_of};
+use crate::refusals::{ask_holder, numbers_from};
 use sqlite::{Alter, Connection, Transaction};
 use std::alloc::Global;
 use tacho_card::Part;
 use tacho_reading::act_within;
 use tacho_reading::fault::store_fault;
-use tacho_reading::finding::{driver_with, number_with_holder};
+use tacho_reading::finding::{driver_with, known, number_with_holder};
 use tacho_reading::near::line_near;
 use tacho_reading::spans::{range_of, stored};
-use tacho_state::{Caller, CardContent, Imported, StoreFault, first_number, number_of_part};
+use tacho_state::{Caller, CardContent, Imported, StoreFault, number_of_part};
 use tacho_tables::{SpanTable, StoredSpan, TableFault, downloads, drivers, spans};
 use tacho_time::Span;
 
@@ -42,9 +43,7 @@ fn importer_by_holder<S: Alter>(
     ensures { Tells S.Store tx.old.conn tx.new.conn result (λ _ s. IsImporter s result (importer None holder.now s)) }
 {
     let found = number_with_holder(tx, holder)?;
-    let Some(number) = found else {
-        return Err(StoreFault::UnknownDriver);
-    };
+    let number = known(found)?;
     let driver = driver_with(tx, number)?;
     Ok(Importer {
         number,
@@ -62,9 +61,7 @@ fn importer_by_number<S: Alter>(
         (λ _ s. IsImporter s result (importer (Some number) holder.now s)) }
 {
     let driver = driver_with(tx, number)?;
-    if driver.holder.as_slice() != holder {
-        return Err(StoreFault::NotYourCard);
-    }
+    ask_holder(&driver.holder, holder)?;
     Ok(Importer {
         number,
         downloads: driver.downloads,
@@ -136,9 +133,7 @@ fn add_download<S: Alter>(
         (λ p. import_turn part file.now p.1 p.0) }
     ensures added { (number : ℕ) → result ≡ Ok (Repeated number) → ⊥ }
 {
-    let Some(number) = first_number(importer.downloads, 1) else {
-        return Err(StoreFault::Full);
-    };
+    let number = numbers_from(importer.downloads, 1)?;
     let cards = stored(alloc, &news.card_spans)?;
     let helds = stored(alloc, &news.held)?;
     let driver = importer.number;

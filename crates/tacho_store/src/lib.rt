@@ -8,6 +8,7 @@ mod import;
 pub mod laws;
 mod news;
 mod own;
+mod refusals;
 mod withdrawal;
 
 pub use archive::{Archive, open_memory};

@@ -1,20 +1,21 @@
 //! A driver's own row: the registration, and changes of the base, the key and the name.
 
-ghost use Rattle.std.specs.Prelude.{◌≡◌, Option, option_map, false};
+ghost use Rattle.std.specs.Prelude.{◌≡◌, false};
 ghost use Rattle.tacho_state.specs.Acts.{IsOfNoFile};
 ghost use Rattle.tacho_state.specs.State.{Driver as Registered};
-ghost use Rattle.tacho_state.specs.Steps.{is_another, rebase_step, register_step, rekey_step, rename_step};
+ghost use Rattle.tacho_state.specs.Steps.{rebase_step, register_step, rekey_step, rename_step};
 ghost use Rattle.tacho_reading.specs.Calls.{Steps, Tells};
 ghost use Rattle.tacho_reading.specs.Finding.{IsFound};
 ghost use Rattle.tacho_reading.specs.Kept.{ActsOn};
 ghost use Rattle.tacho_store.specs.Registering.{AreFree};
 ghost use Rattle.tacho_store.specs.Rekeying.{CanHaveKey};
 
+use crate::refusals::{ask_monday, ask_owner, ask_taken};
 use sqlite::{Alter, Connection, Transaction};
 use tacho_reading::act_within;
 use tacho_reading::fault::store_fault;
 use tacho_reading::finding::{driver_with, number_with_holder, number_with_key, stored_with};
-use tacho_state::{Driver, StoreFault, is_monday};
+use tacho_state::{Driver, StoreFault};
 use tacho_tables::drivers;
 use tacho_time::Day;
 
@@ -25,18 +26,9 @@ fn ask_free<S: Alter>(tx: &mut Transaction<'_, S>, driver: &Driver) -> Result<()
         (register_step driver.now.number driver.now.holder driver.now.key driver.now.base driver.now.name s).answer result) }
 {
     let by_number = stored_with(tx, driver.number())?;
-    if by_number.is_some() {
-        return Err(StoreFault::DriverTaken);
-    }
     let by_key = number_with_key(tx, driver.key().as_bytes())?;
-    if by_key.is_some() {
-        return Err(StoreFault::KeyTaken);
-    }
     let by_holder = number_with_holder(tx, driver.holder())?;
-    if by_holder.is_some() {
-        return Err(StoreFault::HolderTaken);
-    }
-    Ok(())
+    ask_taken(by_number.is_some(), by_key.is_some(), by_holder.is_some())
 }
 
 /// Adds a driver, within a transaction: S1, S2, S3, S9.
@@ -45,9 +37,7 @@ fn register_in<S: Alter>(tx: &mut Transaction<'_, S>, driver: &Driver) -> Result
         (register_step driver.now.number driver.now.holder driver.now.key driver.now.base driver.now.name) }
 {
     ask_free(tx, driver)?;
-    if !is_monday(driver.base()) {
-        return Err(StoreFault::NotMonday);
-    }
+    ask_monday(driver.base())?;
     drivers::insert(
         tx,
         driver.number(),
@@ -80,9 +70,7 @@ fn rebase_in<S: Alter>(
     ensures { Steps S.Store tx.old.conn tx.new.conn result (λ _. tt) (rebase_step driver base) }
 {
     driver_with(tx, driver)?;
-    if !is_monday(base) {
-        return Err(StoreFault::NotMonday);
-    }
+    ask_monday(base)?;
     drivers::set_base(tx, driver, base.number()).map_err(store_fault)
 }
 
@@ -97,25 +85,13 @@ pub fn rebase<S: Alter>(conn: &mut Connection<S>, driver: u32, base: Day) -> Res
     act_within!(conn, tx, rebase_in(&mut tx, driver, base))
 }
 
-/// True if the number of a key's owner, if there is one, isn't this driver's.
-fn is_of_another(owner: Option<u32>, driver: u32) -> bool
-    ensures { (d : Option Registered) → owner ≡ option_map (λ (x : Registered). x.number) d → result ≡ is_another driver d }
-{
-    match owner {
-        Some(number) => number != driver,
-        None => false,
-    }
-}
-
 /// Checks that no other driver has a key, and that the driver is there: S2, S4.
 fn ask_key<S: Alter>(tx: &mut Transaction<'_, S>, driver: u32, key: &str) -> Result<(), StoreFault>
     ensures { Tells S.Store tx.old.conn tx.new.conn result
         (λ _ s. IsFound (λ _. (d : Registered) × CanHaveKey s driver key.now d) (rekey_step driver key.now s).answer result) }
 {
     let owner = number_with_key(tx, key.as_bytes())?;
-    if is_of_another(owner, driver) {
-        return Err(StoreFault::KeyTaken);
-    }
+    ask_owner(owner, driver)?;
     driver_with(tx, driver)?;
     Ok(())
 }

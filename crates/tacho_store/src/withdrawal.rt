@@ -12,6 +12,7 @@ ghost use Rattle.tacho_reading.specs.Kept.{ActsOn};
 ghost use Rattle.tacho_reading.specs.Apart.{AreRowsApart, driver_rows};
 ghost use Rattle.tacho_store.specs.Withdrawing.{IsEntry, AreRowsFor, HaveNoRows, AreRenewed, Renews};
 
+use crate::refusals::kept_entry;
 use sqlite::{Alter, Connection, Transaction};
 use std::alloc::Global;
 use tacho_reading::act_within;
@@ -33,13 +34,7 @@ fn entry_with<S: Alter>(
 {
     driver_with(tx, driver)?;
     let found = entries::by_number(tx, driver, number).map_err(store_fault)?;
-    let Some(entry) = found else {
-        return Err(StoreFault::UnknownEntry);
-    };
-    if entry.withdrawn != 0 {
-        return Err(StoreFault::AlreadyWithdrawn);
-    }
-    Ok(entry)
+    kept_entry(found)
 }
 
 /// What stored rows of cards and of entries give in a range. A contradiction between two of them is a store failure.

@@ -1,21 +1,24 @@
-use Rattle.std.proofs.Common.{rules, ◌≡◌, ◌∙◌, map, sym, subst}
+use Rattle.std.proofs.Common.{rules, ◌≡◌, ◌∙◌, Err, ap, map, sym, subst}
 use Rattle.sqlite.specs.Held.{state}
+use Rattle.tacho_state.specs.declared.fault.StoreFault.TheVariants.{Full}
 use Rattle.tacho_state.specs.Numbers.{part_number}
 use Rattle.tacho_tables.specs.Tables.{Turns, row_of}
 use Rattle.tacho_reading.specs.Standing.{Follows, span_row}
+use Rattle.tacho_reading.proofs.LookUpLemmas.{handed_on, is_told}
 use Rattle.tacho_reading.proofs.MappedLemmas.{was_ok}
 use Rattle.tacho_store.specs.Importing.{tables_after_download}
 use Rattle.tacho_store.proofs.StepsLemmas.{given_by}
 use Rattle.tacho_store.proofs.AdditionLemmas.{full_answer, added_answer, added_after, count_is}
+use Rattle.tacho_store.proofs.RefusalLemmas.{refused_no_file, was_none, was_some}
 use Rattle.tacho_store.proofs.import.add_download.Goals as goal
 
 pub returns-clause-steps : goal.returns-clause-steps
 returns-clause-steps g c = given_by (search rules) (search rules) (search rules)
     (λ clean schema s stands p given.
-    added_answer _ s p.0 c.args.importer (part_number c.args.part) c.args.file.now p.1 _ _ given.0 given.1 c.in-Some.number
-    (sym c.first_number.ensures ∙ c.in-Some.is))
+    added_answer _ s p.0 c.args.importer (part_number c.args.part) c.args.file.now p.1 _ _ given.0 given.1 c.in_ok-number.number
+    (was_some _ _ _ c.in_ok-number.ensures))
     (λ clean schema s stands p given.
-    let some = sym c.first_number.ensures ∙ c.in-Some.is in
+    let some = was_some _ _ _ c.in_ok-number.ensures in
     let d = p.0 in
     let spans = p.1 in
     let is = given.0 in
@@ -34,21 +37,22 @@ returns-clause-steps g c = given_by (search rules) (search rules) (search rules)
     let wrote = was_ok c.write_download.result c.in_ok-map_err.field-0 _ c.in_ok-map_err.ensures.cases
     (rw (card_rows, held_rows) at (c.write_download.ensures.turned clean schema)) in
     let turned = subst (λ number. Turns old after (tables_after_download n number part file (map (span_row n) cards) (map (span_row n) helds)))
-    (count_is _ s d c.args.importer part file spans cards helds is new c.in-Some.number some) (rw c.number_of_part.ensures at wrote) in (
+    (count_is _ s d c.args.importer part file spans cards helds is new c.in_ok-number.number some) (rw c.number_of_part.ensures at wrote) in (
       turned.schema,
       subst (Follows old.now.trees after.now.trees s)
-          (sym (added_after _ s d c.args.importer part file spans cards helds is new c.in-Some.number some))
+          (sym (added_after _ s d c.args.importer part file spans cards helds is new c.in_ok-number.number some))
           (new.follows c.args.part file p.2 after.now.trees given.2 turned.stands),
     ))
 
-pub returns-in_default-clause-steps : goal.returns-in_default-clause-steps
-returns-in_default-clause-steps g c = record {
-  stays = search rules;
-  keeps = search rules;
-  of_no_file = search rules;
-  answer = λ clean schema s stands p given.
-      full_answer _ s p.0 c.args.importer (part_number c.args.part) c.args.file.now p.1 _ _ given.0 given.1
-      (sym c.first_number.ensures ∙ c.in_default.is);
-  made = search rules;
-  others = search rules;
-}
+pub returns-in_err-number-clause-steps : goal.returns-in_err-number-clause-steps
+returns-in_err-number-clause-steps g c =
+    let none = was_none _ Full _ c.in_err-number.ensures in record {
+      stays = search rules;
+      keeps = search rules;
+      of_no_file = refused_no_file Full _ c.from_residual.result none.1 tt c.from_residual.ensures;
+      answer = λ clean schema s stands p given. handed_on _ _ c.from_residual.result _ (is_told _ _
+          (full_answer _ s p.0 c.args.importer (part_number c.args.part) c.args.file.now p.1 _ _ given.0 given.1 none.0 ∙ ap Err none.1))
+          c.from_residual.ensures;
+      made = search rules;
+      others = search rules;
+    }

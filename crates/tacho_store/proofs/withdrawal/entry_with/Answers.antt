@@ -1,6 +1,6 @@
 use Rattle.tacho_reading.proofs.LookUpLemmas.{given_up, unknown_refuses}
 use Rattle.tacho_reading.proofs.TellLemmas.{found_handed, tells_as, tells_rows, tells_then}
-use Rattle.tacho_store.proofs.WithdrawalLemmas.{no_driver, no_entry, entry_found, entry_gone, entry_kept}
+use Rattle.tacho_store.proofs.WithdrawalLemmas.{no_driver, entry_found, entry_told, kept_no_file}
 use Rattle.tacho_store.proofs.withdrawal.entry_with.Goals as goal
 
 pub returns-in_err-driver_with : goal.returns-in_err-driver_with
@@ -11,23 +11,8 @@ pub returns-in_err-found : goal.returns-in_err-found
 returns-in_err-found g c = found_handed (tells_then c.in_ok-driver_with.ensures (tells_rows c.by_number.ensures c.in_err-found.ensures.cases))
     c.from_residual-in_err-found.ensures (λ db s stands (it, up). given_up _ _ up)
 
-pub returns-in_default : goal.returns-in_default
-returns-in_default g c = tells_as (tells_then c.in_ok-driver_with.ensures (tells_rows c.by_number.ensures c.in_ok-found.ensures.cases)) tt (λ db s stands (it, read). record {
-  found = tt;
-  refused = no_entry c.args.driver c.args.number s it.found.0 it.found.1 (rw c.in_default.is at
-      (entry_found db s c.args.driver c.args.number it.found.0 c.in_ok-found.found stands it.found.1 read));
-})
-
-pub returns-then-entry-ne0 : goal.returns-then-entry-ne0
-returns-then-entry-ne0 g c = tells_as (tells_then c.in_ok-driver_with.ensures (tells_rows c.by_number.ensures c.in_ok-found.ensures.cases)) tt (λ db s stands (it, read). record {
-  found = tt;
-  refused = entry_gone c.args.driver c.args.number s it.found.0 c.in-Some.entry it.found.1 c.if-entry-ne0.true (rw c.in-Some.is at
-      (entry_found db s c.args.driver c.args.number it.found.0 c.in_ok-found.found stands it.found.1 read));
-})
-
 pub returns : goal.returns
-returns g c = tells_as (tells_then c.in_ok-driver_with.ensures (tells_rows c.by_number.ensures c.in_ok-found.ensures.cases)) tt (λ db s stands (it, read). record {
-  found = entry_kept c.args.driver c.args.number s it.found.0 c.in-Some.entry it.found.1 c.if-entry-ne0.false (rw c.in-Some.is at
-      (entry_found db s c.args.driver c.args.number it.found.0 c.in_ok-found.found stands it.found.1 read));
-  refused = tt;
-})
+returns g c = tells_as (tells_then c.in_ok-driver_with.ensures (tells_rows c.by_number.ensures c.in_ok-found.ensures.cases))
+    (kept_no_file c.in_ok-found.found c.kept_entry.result c.kept_entry.ensures)
+    (λ db s stands (it, read). entry_told c.args.driver c.args.number s it.found.0 it.found.1 c.in_ok-found.found c.kept_entry.result
+    c.kept_entry.ensures (entry_found db s c.args.driver c.args.number it.found.0 c.in_ok-found.found stands it.found.1 read))

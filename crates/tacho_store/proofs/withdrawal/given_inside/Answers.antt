@@ -17,4 +17,4 @@ returns-clause-cause c =
     faulty_rows _ _ c.in-Err.fault c.fault_of_rows.result
     (spans_of_both c.args.cards.now c.args.others.now c.deref.result.now c.deref-2.result.now
     (c.deref.ensures.value ∙ c.in_ok-card_spans.ensures.spans) (c.deref-2.ensures.value ∙ c.in_ok-entered.ensures.spans))
-    c.in-Err.ensures c.fault_of_rows.ensures
+    c.in-Err.ensures c.fault_of_rows.ensures.cause

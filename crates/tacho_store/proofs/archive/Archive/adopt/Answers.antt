@@ -5,7 +5,7 @@ use Rattle.sqlite.specs.Held.{state}
 use Rattle.tacho_state.specs.declared.fault.StoreFault.{StoreFault}
 use Rattle.tacho_reading.specs.Standing.{Represents}
 use Rattle.tacho_store.proofs.CrashLemmas.{shows_found}
-use Rattle.tacho_store.proofs.OpeningLemmas.{versioned, not_of_one, old_by, alone_by}
+use Rattle.tacho_tables.proofs.CatalogLemmas.{archive_of}
 use Rattle.tacho_store.proofs.archive.Archive.adopt.Goals as goal
 
 pub returns-in-Ok-clause-adopted : goal.returns-in-Ok-clause-adopted
@@ -13,7 +13,6 @@ returns-in-Ok-clause-adopted g c clean =
     let checked = c.in-Ok.ensures.checked in
     let live = checked.live clean in
     let old = state g.S.Store c.args.conn in
-    let by = versioned old.now (c.schema-sound.ensures.live (checked.alone.was_open clean live)).0 in
     let held = shows_found old (state g.S.Store c.check.new.conn) c.schema-sound.ensures.live
     (checked.alone.was_open clean) (checked.alone.same clean) in
     let same = c.is_autocommit-settled.ensures.settled (c.is_autocommit-settled.ensures.value ∙ ap not c.in-Ok.ensures.autocommit) live in
@@ -24,22 +23,13 @@ returns-in-Ok-clause-adopted g c clean =
       left = search rules;
       rests = λ s stands db may. inl (subst (λ (d : Trees). Represents d s)
           (ap (λ (d : Database). d.trees) same ∙ sym (g.met.S.Store.settled c.check.new.conn.store db live may)) (held s stands live).1);
-      found = search rules;
-      names = checked.names;
-      none = not_of_one old (λ has. checked.version clean (by has));
-      stated = λ has. checked.stated clean (by has);
-      version = λ has. checked.version clean (by has);
+      schema = archive_of old.now checked.schema (c.schema-sound.ensures.live (checked.alone.was_open clean live)).0;
+      stated = checked.stated clean;
+      version = checked.version clean;
     }
 
 pub returns-in-Err-clause-refused : goal.returns-in-Err-clause-refused
-returns-in-Err-clause-refused g c = (
-  c.in-Err.ensures.refused,
-  c.check.ensures.autocommit,
-  alone_by (state g.S.Store c.args.conn) (state g.S.Store c.check.new.conn) c.schema-sound.ensures.live c.in-Err.ensures.checked.alone,
-)
+returns-in-Err-clause-refused g c = (c.in-Err.ensures.refused, c.check.ensures.autocommit, c.in-Err.ensures.checked.alone)
 
 pub returns-in-Err-clause-old : goal.returns-in-Err-clause-old
-returns-in-Err-clause-old g c clean is =
-    let checked = c.in-Err.ensures.checked in
-    let found = checked.is_old clean (ap (λ (fault : StoreFault). Err fault) is) in
-    (found.0, old_by (state g.S.Store c.args.conn) c.schema-sound.ensures.live (checked.alone.was_open clean found.0) found.1)
+returns-in-Err-clause-old g c clean is = c.in-Err.ensures.checked.is_old clean (ap (λ (fault : StoreFault). Err fault) is)
