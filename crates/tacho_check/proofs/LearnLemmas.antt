@@ -9,12 +9,11 @@ use Rattle.sqlite.specs.Store.{Ghosts}
 use Rattle.sqlite.specs.Tree.{Trees}
 use Rattle.sqlite.proofs.Callers.{unchanged_then}
 use Rattle.sqlite_catalog.specs.Listing.{IsSound}
-use Rattle.sqlite_tied.specs.Compute.{everything}
-use Rattle.tacho_tables.specs.Schema.{Layout, Made, Carried, archive_schema, has_tables, old_names}
+use Rattle.tacho_tables.specs.Schema.{Layout, Made, Carried, archive_schema}
 use Rattle.tacho_tables.specs.Tables.{IsArchive}
 use Rattle.tacho_tables.proofs.CallLemmas.{stays_then, any_ok}
 use Rattle.tacho_tables.proofs.Inside.{keeps_then}
-use Rattle.tacho_tables.specs.Ask.{Learns, has_old_table}
+use Rattle.tacho_tables.specs.Ask.{Learns, IsCarriedOver}
 
 -- of a result that is an error, any fact holds for the value
 no_ok : {A E : Type 0} (r : Result A E) (P : Type 0) → IsErr r → OnOk r P
@@ -107,11 +106,10 @@ module _ {S : Type 0} {g : Ghosts S} {a b c : MutBor (Held S)} {A B E F : Type 0
 
 -- ---- the table of schema 1
 
--- an archive that hasn't was made as it is
-made : (layout : Layout) → has_tables old_names (archive_schema layout) ≡ false → layout ≡ Made
-unfolding everything
-made Made none = refl
-made Carried none = absurd (true≢false none)
+-- an archive that wasn't carried over was made as it is
+made : (layout : Layout) → ¬ (archive_schema layout ≡ archive_schema Carried) → layout ≡ Made
+made Made apart = refl
+made Carried apart = absurd (apart refl)
 
-pub is_made : (s : State) (is : IsArchive s.now) → has_old_table s ≡ false → is.layout ≡ Made
-is_made s is none = made is.layout (subst (λ x. has_tables old_names x ≡ false) is.schema none)
+pub is_made : (s : State) (is : IsArchive s.now) → ¬ IsCarriedOver s → is.layout ≡ Made
+is_made s is apart = made is.layout (λ same. apart (is.schema ∙ same))

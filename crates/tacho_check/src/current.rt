@@ -1,10 +1,10 @@
 //! Whether `meta` and the table of schema 1 are as a state's archive has them.
 
-ghost use Rattle.std.specs.Prelude.{◌≡◌, [], ◌∷◌, false, IsTrue, IfErr, OnOk};
+ghost use Rattle.std.specs.Prelude.{◌≡◌, ◌↔◌, [], ◌∷◌, false, IsTrue, IfErr, OnOk};
 ghost use Rattle.sqlite.specs.Held.{state};
 ghost use Rattle.tacho_tables.specs.Schema.{current_version};
 ghost use Rattle.tacho_tables.specs.Tables.{IsVersion, HasNoOldEntries};
-ghost use Rattle.tacho_tables.specs.Ask.{Learns, has_old_table};
+ghost use Rattle.tacho_tables.specs.Ask.{Learns, IsCarriedOver};
 ghost use Rattle.tacho_reading.specs.Kept.{HasGivenUp};
 ghost use Rattle.tacho_check.specs.Checked.{Checks};
 ghost use Rattle.tacho_check.specs.Current.{current_shown};
@@ -61,7 +61,7 @@ fn ask_no_rows(rows: &[Row]) -> Result<(), TableFault>
 
 /// Asks whether `entries`, the table of schema 1, has no rows.
 fn ask_old_entries<S: Alter>(tx: &mut Transaction<'_, S>) -> Result<(), TableFault>
-    requires { IsTrue (has_old_table (state S.Store tx.old.conn.now)) }
+    requires { IsCarriedOver (state S.Store tx.old.conn.now) }
     ensures { Learns S.Store tx.old.conn tx.new.conn result (λ layout db _. HasNoOldEntries layout db) }
 {
     let rows = old_entry_rows(tx)?;
@@ -70,7 +70,7 @@ fn ask_old_entries<S: Alter>(tx: &mut Transaction<'_, S>) -> Result<(), TableFau
 
 /// Asks of an archive that was migrated whether `entries` and `meta` are as they have to be.
 fn ask_migrated<S: Alter>(tx: &mut Transaction<'_, S>) -> Result<(), TableFault>
-    requires { IsTrue (has_old_table (state S.Store tx.old.conn.now)) }
+    requires { IsCarriedOver (state S.Store tx.old.conn.now) }
     ensures { Learns S.Store tx.old.conn tx.new.conn result
         (λ layout db _. IsVersion current_version db × HasNoOldEntries layout db) }
 {
@@ -78,13 +78,13 @@ fn ask_migrated<S: Alter>(tx: &mut Transaction<'_, S>) -> Result<(), TableFault>
     ask_meta(tx)
 }
 
-/// Asks whether `meta` is as it has to be, and `entries` if there is such a table.
-fn ask_current_in<S: Alter>(tx: &mut Transaction<'_, S>, has_old: bool) -> Result<(), TableFault>
-    requires { has_old ≡ has_old_table (state S.Store tx.old.conn.now) }
+/// Asks whether `meta` is as it has to be, and `entries` if the archive was carried over.
+fn ask_current_in<S: Alter>(tx: &mut Transaction<'_, S>, is_carried: bool) -> Result<(), TableFault>
+    requires { IsTrue is_carried ↔ IsCarriedOver (state S.Store tx.old.conn.now) }
     ensures { Learns S.Store tx.old.conn tx.new.conn result
         (λ layout db _. IsVersion current_version db × HasNoOldEntries layout db) }
 {
-    if has_old {
+    if is_carried {
         ask_migrated(tx)
     } else {
         ask_meta(tx)
@@ -100,11 +100,11 @@ pub fn ask_current<S: Alter>(conn: &mut Connection<S>) -> Result<(), StoreFault>
     ensures current { Checks S.Store conn.old conn.new result
         (λ layout db _. IsVersion current_version db × HasNoOldEntries layout db) }
 {
-    let has_old = opening::has_old_archive(conn);
+    let is_carried = opening::is_carried_over(conn);
     // For the proof alone: nothing is pending, so what is seen is what was committed.
     let _settled = conn.is_autocommit();
     let mut tx = conn.transaction();
-    let found = ask_current_in(&mut tx, has_old);
+    let found = ask_current_in(&mut tx, is_carried);
     tx.rollback();
     match opening::ask(conn) {
         Ok(()) => found.map_err(store_fault),
