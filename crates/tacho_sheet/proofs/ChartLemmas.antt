@@ -18,7 +18,7 @@ use Rattle.tacho_stretches.specs.declared.stretch.Stretch.{Stretch}
 use Rattle.tacho_stretches.specs.Stretches.{Judged, judged_of}
 use Rattle.tacho_sheet.specs.Reports.{breaches_within, column_minutes, is_single_minute, AgreeIn}
 use Rattle.tacho_sheet.specs.Months.{is_examined, month_breaches}
-use Rattle.tacho_sheet.specs.Chart.{chart_front, chart_head, chart_hours, chart_legend, chart_title, day_group, AreDayGroups, AreUnseen, HasDayGroup, IsDayGroup, IsMonthChart, NoneCovers, OneCovers, ShowsMinute}
+use Rattle.tacho_sheet.specs.Chart.{chart_front, chart_head, chart_hours, chart_legend, chart_title, day_group, AreDayGroups, AreUnseen, HasDayGroup, HasMarks, IsDayGroup, IsMonthChart, NoneCovers, OneCovers, ShowsMinute}
 use Rattle.tacho_sheet.specs.Seen.{seen_span, seen_spans}
 use Rattle.tacho_sheet.proofs.AmountLemmas.{count_same}
 use Rattle.tacho_sheet.proofs.MarkLemmas.{held_same}
@@ -331,4 +331,16 @@ chart_same number name a b stretches month text e h = record {
   groups = h.groups;
   are = groups_same a b stretches h.day 100 h.days h.groups (e (1440 * h.day) (1440 * (h.day + h.days)) h.bounds) h.are;
   is = h.is;
+}
+
+-- the marks of a day are those of the month's breaches in the day
+pub has_marks : (line : List Span) (stretches : List Judged) (start past day y : ℕ) (text : List ℕ) → start ≤ 1440 * day → 1440 * (day + 1) ≤ past
+    → IsDayGroup line stretches day y text
+    → HasMarks day y (breaches_within (1440 * day) (1440 * (day + 1)) (month_breaches start past stretches)) text
+has_marks line stretches start past day y text low high w = record {
+  spans = w.spans;
+  gaps = w.gaps;
+  drive = column_minutes line (1440 * day) 1440 (is_single_minute Drive);
+  is = w.is ∙ same_group day y w.spans w.spans w.gaps w.gaps w.breaches _ _ _ refl refl
+      (w.marked ∙ sym (day_breaches start past (1440 * day) (1440 * (day + 1)) stretches low high)) refl;
 }

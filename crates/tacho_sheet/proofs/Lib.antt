@@ -14,6 +14,7 @@ pub mod FormLemmas
 pub mod MonthLemmas
 pub mod ColumnLemmas
 pub mod FilledLemmas
+mod AcceptedLemmas
 pub mod FilledTextLemmas
 pub mod ChartLemmas
 mod PageFacts

@@ -169,6 +169,13 @@ pub record HasDayGroup (line : List Span) (stretches : List Judged) (day y k : �
   pub is : IsDayGroup line stretches (day + k) (y + 42 * k) group
   pub whole : text ≡ before ++ (group ++ after)
 
+-- the group of a day has marks of exactly these breaches, in this order, each at the minute of its moment in the day
+pub record HasMarks (day y : ℕ) (breaches : List Breach) (text : List ℕ) : Type 0 where
+  pub spans : List Span
+  pub gaps : List Gap
+  pub drive : ℕ
+  pub is : text ≡ day_group day y spans gaps breaches drive
+
 -- ---- a month
 
 -- the style, and a white ground, so that the texts can also be read on a dark page

@@ -1,7 +1,7 @@
 //! Laws about texts. A law is a function that does nothing: what it ensures is proved, and holds for everything that it names. Some call
 //! the laws on which they depend.
 
-ghost use Rattle.std.specs.Prelude.{◌≡◌, ◌+◌, ◌-◌, ◌*◌, ◌<◌, ◌≤◌, ◌↔◌, ◌++◌, ◌∷◌, ℕ, List, [], Ok, codes, false, length, map, sum, sum_by, true};
+ghost use Rattle.std.specs.Prelude.{◌≡◌, ◌+◌, ◌-◌, ◌*◌, ◌<◌, ◌≤◌, ◌↔◌, ◌++◌, ◌∷◌, ℕ, List, [], None, Ok, codes, false, length, map, sum, sum_by, true};
 ghost use Rattle.tacho_time.specs.declared.span.Span.{Span as SpanValue};
 ghost use Rattle.tacho_line.specs.declared.gap.Gap.{Gap};
 ghost use Rattle.tacho_line.specs.declared.horizon.Horizon.{Horizon as HorizonValue};
@@ -10,24 +10,29 @@ ghost use Rattle.tacho_law.specs.declared.breach.Kind.{Kind as KindValue};
 ghost use Rattle.tacho_law.specs.declared.debt.Debt.{Debt as DebtValue};
 ghost use Rattle.tacho_line.specs.Line.{mark_at, AgreeWithin, AreGaps, HoldsWithin, InGaps, IsWithin};
 ghost use Rattle.tacho_stretches.specs.Start.{IsEndOfHeld};
-ghost use Rattle.tacho_stretches.specs.Stretches.{AreAll, Judged};
-ghost use Rattle.tacho_sheet.specs.Reports.{columns, count_from, is_lacking, kind_name, column_minutes, paid_text, AgreeIn, IsGapText, IsMonthSheet, IsSpanCsv};
-ghost use Rattle.tacho_sheet.specs.Months.{article, count_of, is_examined, kind_code, kinds, AreIncidentRows, IsOverviewRow};
-ghost use Rattle.tacho_sheet.specs.Chart.{AreDayGroups, AreUnseen, HasDayGroup, IsMonthChart, ShowsMinute};
+ghost use Rattle.tacho_stretches.specs.Stretches.{AreAll, AreStretches, Judged};
+ghost use Rattle.tacho_rules.specs.Report.{IsReport};
+ghost use Rattle.tacho_sheet.specs.Stretches.{block, debt_text, stretch_text};
+ghost use Rattle.tacho_sheet.specs.Reports.{breach_text, breaches_within, columns, count_from, is_lacking, kind_name, column_minutes, owed_text, paid_text, AgreeIn, IsGapText, IsMonthSheet, IsSpanCsv};
+ghost use Rattle.tacho_sheet.specs.Months.{article, count_of, is_examined, kind_code, kinds, month_breaches, AreIncidentRows, IsOverviewRow};
+ghost use Rattle.tacho_sheet.specs.Chart.{AreDayGroups, AreUnseen, HasDayGroup, HasMarks, IsDayGroup, IsMonthChart, ShowsMinute};
 ghost use Rattle.tacho_sheet.specs.Ahead.{IsAheadText, IsTooLate};
 ghost use Rattle.tacho_sheet.specs.Forecast.{IsForecastRow, SameForecast};
 ghost use Rattle.tacho_sheet.specs.Standing.{IsStandingRow};
 ghost use Rattle.tacho_sheet.specs.Why.{IsMonthWhy};
 ghost use Rattle.tacho_ahead.specs.Outlook.{is_open_debt};
 ghost use Rattle.tacho_state.specs.Summaries.{Summary};
-ghost use Rattle.tacho_time.specs.Spans.{IsCanonicalOf};
+ghost use Rattle.tacho_time.specs.Spans.{Conflicts, IsCanonicalOf};
 ghost use Rattle.tacho_sheet.specs.Form.{AreRows as AreFormRows, Fills, filled_form, IsForm};
 ghost use Rattle.tacho_state.specs.Batch.{Hours, batch_of};
-ghost use Rattle.tacho_state.specs.State.{Driver, held_spans};
+ghost use Rattle.tacho_state.specs.Least.{least_conflict};
+ghost use Rattle.tacho_state.specs.State.{Driver, Held, entered_spans, held_spans};
 ghost use Rattle.tacho_state.specs.Steps.{enter_own};
 ghost use Rattle.tacho_sheet.specs.Entries.{IsRead};
 
 use tacho_line::laws::one_list_of_gaps;
+use tacho_rules::laws::one_report;
+use tacho_stretches::laws::first_stretch_is_the_report;
 use tacho_time::laws::{civil_dates, minute_is_read_back, one_canonical_list};
 
 /// If two lines give each minute of a month the same mark, they have the same text of its gaps.
@@ -142,7 +147,8 @@ pub fn month_chart_is_by_marks()
 {}
 
 /// A chart has a group for each day of the month. Over each minute of the day there is exactly one bar of its mark if the minute is held, and
-/// none if it isn't; and there is a shade exactly if the minute isn't within a stretch.
+/// none if it isn't; and there is a shade exactly if the minute isn't within a stretch. Its marks are those of exactly the month's breaches whose
+/// moment is in the day, each at its moment.
 pub fn a_chart_shows_each_minute()
     ensures days { (line : List SpanValue) (stretches : List Judged) (day y n : ℕ) (text : List ℕ) → AreDayGroups line stretches day y n text
         → (k : ℕ) → k < n → HasDayGroup line stretches day y k text }
@@ -150,6 +156,9 @@ pub fn a_chart_shows_each_minute()
         → (m : ℕ) → IsWithin (1440 * day) (1440 * (day + 1)) m → ShowsMinute spans m (mark_at line m) }
     ensures shades { (stretches : List Judged) (gaps : List Gap) (start past : ℕ) → AreUnseen stretches start past gaps
         → (m : ℕ) → IsWithin start past m → InGaps gaps m ↔ (is_examined stretches m ≡ false) }
+    ensures marks { (line : List SpanValue) (stretches : List Judged) (start past day y : ℕ) (text : List ℕ)
+        → start ≤ 1440 * day → 1440 * (day + 1) ≤ past → IsDayGroup line stretches day y text
+        → HasMarks day y (breaches_within (1440 * day) (1440 * (day + 1)) (month_breaches start past stretches)) text }
 {}
 
 /// What is held has exactly one text of the evidence for a month's breaches, for its stretches.
@@ -207,3 +216,25 @@ pub fn a_filled_form_leaves_no_gap()
         → AreGaps (held_spans d) base end gaps → AreFormRows gaps rows → Fills rows hours
         → enter_own (batch_of hours) d ≡ Ok (first, after) → AreGaps (held_spans after) base end [] }
 {}
+
+/// The hours that fill in the rows of a form contradict nothing that the driver holds, if no minute has two marks there. So entering them isn't
+/// refused with S6.
+pub fn a_filled_form_contradicts_nothing()
+    ensures { (d : Driver) (base end : ℕ) (gaps rows : List Gap) (hours : List Hours) → ((m : ℕ) → ¬ (Conflicts (Held d) m))
+        → AreGaps (held_spans d) base end gaps → AreFormRows gaps rows → Fills rows hours
+        → least_conflict (held_spans d ++ entered_spans (batch_of hours)) ≡ None }
+{}
+
+/// The first block of the text of stretches is the Monday of the base, the text of the report's breaches, and what isn't examined after it.
+/// Likewise the first block of the text of debts, with the report's debts.
+pub fn the_first_block_is_the_report()
+    ensures breaches { (line : List SpanValue) (base : ℕ) (horizon : HorizonValue) (breaches : List BreachValue) (debts : List DebtValue)
+        (s : Judged) (stretches : List Judged) → IsReport line base horizon breaches debts → AreStretches line base (s ∷ stretches)
+        → (s.monday ≡ base) × (stretch_text (s ∷ stretches) ≡ block (breach_text breaches horizon) s ++ stretch_text stretches) }
+    ensures debts { (line : List SpanValue) (base : ℕ) (horizon : HorizonValue) (breaches : List BreachValue) (debts : List DebtValue)
+        (s : Judged) (stretches : List Judged) → IsReport line base horizon breaches debts → AreStretches line base (s ∷ stretches)
+        → debt_text (s ∷ stretches) ≡ block (owed_text debts horizon) s ++ debt_text stretches }
+{
+    one_report();
+    first_stretch_is_the_report();
+}
