@@ -4,7 +4,7 @@ mod PartLemmas
 mod AccessLemmas
 mod RespondLemmas
 mod HeadLemmas
-mod RunLemmas
+pub mod RunLemmas
 mod PageLemmas
 mod LawLemmas
 mod PageFacts

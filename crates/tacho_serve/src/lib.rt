@@ -3,8 +3,10 @@
 
 mod accepting;
 mod held;
+mod key;
 mod serving;
 mod timed;
 mod waiting;
 
-pub use serving::{Place, ServeFault, listen, serve};
+pub use key::OfficeKey;
+pub use serving::{Place, ServeFault, serve};

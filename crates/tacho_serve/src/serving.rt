@@ -1,5 +1,10 @@
 //! A port, and its connections, which are answered one after the other.
 
+ghost use Rattle.std.specs.Prelude.{List};
+ghost use Rattle.tacho_state.specs.State.{State};
+ghost use Rattle.tacho_serve.specs.Served.{ChangesByRequests};
+
+use crate::key::OfficeKey;
 use crate::timed::Timed;
 use crate::waiting::Waiting;
 use std::net::{Ipv4Addr, Shutdown, TcpListener, TcpStream};
@@ -42,34 +47,41 @@ pub trait Place {
     /// Notes the archive's files as they are now.
     fn note(&mut self, rt: &HostRuntime);
 
+    /// Reports that the port is bound, before the first connection.
+    fn begin(&mut self, rt: &HostRuntime);
+
     /// True if nobody has changed, replaced or moved them since they were noted. Otherwise what is written to them now may be lost.
     fn is_unchanged(&mut self, rt: &HostRuntime) -> bool;
 }
 
 /// Listens on a port of 127.0.0.1.
-pub fn listen(rt: &HostRuntime, port: u16) -> Result<TcpListener, ServeFault> {
+fn listen(rt: &HostRuntime, port: u16) -> Result<TcpListener, ServeFault> {
     TcpListener::bind(rt, (Ipv4Addr::LOCALHOST, port)).map_err(|_| ServeFault::Device)
 }
 
-/// Accepts `count` connections on a port, and answers them one after the other, each within 30 seconds: requests for these page files, and
+/// Binds a port of 127.0.0.1, accepts `count` connections there, and answers them one after the other, each within 30 seconds: requests for these page files, and
 /// those to the archive. A connection that sends nothing is closed, and delays no other. A fault of a connection ends only that connection.
 /// The place was noted before, and is noted after each answer: once it isn't as it was noted, no further connection is answered. A change
-/// during an answer isn't noticed.
+/// during an answer isn't noticed. The archive changes by requests alone, under this key of the office.
 pub fn serve<K: Keeper, P: Place>(
     rt: &HostRuntime,
     keeper: &mut K,
     place: &mut P,
-    key: &str,
+    key: &OfficeKey<'_>,
     files: &[PageFile],
-    listener: &TcpListener,
+    port: u16,
     count: u32,
-) -> Result<(), ServeFault> {
+) -> Result<(), ServeFault>
+    ensures { ChangesByRequests files.now key.now K.stands K.is_clean K.leaves keeper.old keeper.new }
+{
     let Ok(routes) = Routes::new(rt.alloc()) else {
         return Err(ServeFault::Memory);
     };
-    let Ok(mut waiting) = Waiting::new(rt, listener, count) else {
+    let listener = listen(rt, port)?;
+    let Ok(mut waiting) = Waiting::new(rt, &listener, count) else {
         return Err(ServeFault::Memory);
     };
+    place.begin(rt);
     for _ in 0..count {
         let stream = match waiting.next() {
             Ok(Some(stream)) => stream,
@@ -90,9 +102,13 @@ pub fn serve<K: Keeper, P: Place>(
 
 /// True if ten probes in a row report a store failure, as they do once the store is shut. A store that was only short of memory for a
 /// moment answers a later probe.
-fn has_failed<K: Keeper>(rt: &HostRuntime, keeper: &mut K, key: &str) -> bool {
+fn has_failed<K: Keeper>(rt: &HostRuntime, keeper: &mut K, key: &OfficeKey<'_>) -> bool
+    ensures clean { K.is_clean keeper.new → K.is_clean keeper.old }
+    ensures stays { K.is_clean keeper.new → (s : State) → K.stands keeper.old s → K.stands keeper.new s }
+    ensures crash { K.is_clean keeper.new → (past : List State) → K.leaves keeper.old past → K.leaves keeper.new past }
+{
     for _ in 0..QUESTIONS {
-        if !matches!(keeper.who(key.as_bytes()), Err(StoreFault::Store)) {
+        if !matches!(keeper.who(key.text().as_bytes()), Err(StoreFault::Store)) {
             return false;
         }
         thread::sleep(rt, Duration::from_millis(PAUSE));
@@ -105,10 +121,12 @@ fn answer_one<K: Keeper>(
     rt: &HostRuntime,
     routes: &Routes,
     keeper: &mut K,
-    key: &str,
+    key: &OfficeKey<'_>,
     files: &[PageFile],
     stream: &TcpStream,
-) -> io::Result<()> {
+) -> io::Result<()>
+    ensures { ChangesByRequests files.now key.now K.stands K.is_clean K.leaves keeper.old keeper.new }
+{
     stream.set_nodelay(true)?;
     let timed = Timed::new(rt, stream, Duration::from_secs(PATIENCE))?;
     let served = answer_or_page(
@@ -116,7 +134,7 @@ fn answer_one<K: Keeper>(
         files,
         Some(routes),
         keeper,
-        key.as_bytes(),
+        key.text().as_bytes(),
         &mut Device::new(timed),
         &mut Device::new(timed),
     );
