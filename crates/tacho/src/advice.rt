@@ -29,6 +29,10 @@ pub const NOT_MADE: &str =
 pub const NOT_CARRIED: &str =
     "it cannot be read whole, or the new archive cannot be written; tacho check reads all of it";
 
+/// The sentence before a service whose office has a driver's key.
+pub const OFFICE_KEY: &str =
+    "a driver has the office's key, and so all the rights of the office; give that driver another key";
+
 /// The bytes below which others may guess a driver's key.
 pub const SAFE_KEY: usize = 20;
 

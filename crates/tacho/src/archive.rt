@@ -6,7 +6,7 @@
 
 ghost use Rattle.std.specs.Prelude.{◌≡◌, false};
 
-use crate::advice::{LOST, NO_PORT, SAFE_KEY, SHORT_KEY, advice_on};
+use crate::advice::{LOST, NO_PORT, OFFICE_KEY, SAFE_KEY, SHORT_KEY, advice_on};
 use sqlite::{Alter, Connection, Error, ErrorCode, File, FileStore};
 use std::alloc::Global;
 use std::fs;
@@ -17,7 +17,7 @@ use tacho_desk::{Fault, Text, Want, part_of};
 use tacho_disk::{NotOwned, Watched, cause_of, make_own, own_place};
 use tacho_http::PageFile;
 use tacho_pages::page_files;
-use tacho_serve::{Place, ServeFault, listen, serve};
+use tacho_serve::{OfficeKey, Place, ServeFault, serve};
 use tacho_state::{Keeper, StoreFault};
 use tacho_store::Archive;
 use tacho_time::Device;
@@ -40,11 +40,22 @@ pub enum Work<'a> {
     /// Does a task, with standard input and output.
     Task(DeskJob<'a>),
     /// Imports the card files with these names.
-    Import { part: &'a str, names: &'a [String] },
+    Import {
+        part: &'a str,
+        names: &'a [String],
+    },
     /// Answers `count` connections on a port of 127.0.0.1, with the office's key and those of drivers.
-    Serve { key: &'a str, port: u16, count: u32 },
+    Serve {
+        key: &'a OfficeKey<'a>,
+        port: u16,
+        count: u32,
+    },
     /// Does the same, and serves the pages. Prints the address of the office's page if somebody waits at a terminal.
-    Listen { key: &'a str, port: u16, count: u32 },
+    Listen {
+        key: &'a OfficeKey<'a>,
+        port: u16,
+        count: u32,
+    },
 }
 
 /// How a job ends. A line is printed once the file is closed.
@@ -234,17 +245,26 @@ fn import_all<S: Alter + Drop>(
     (Ending::Told(status, fault), archive.close())
 }
 
-/// The files of an open archive.
+/// The files of an open archive, and the port on which page files are served, if they are.
 #[derive(Drop)]
-struct Files<'a>(Watched<'a>);
+struct Files<'a> {
+    watched: Watched<'a>,
+    page_port: Option<u16>,
+}
 
 impl Place for Files<'_> {
     fn note(&mut self, rt: &HostRuntime) {
-        self.0.note(rt);
+        self.watched.note(rt);
+    }
+
+    fn begin(&mut self, rt: &HostRuntime) {
+        if let Some(port) = self.page_port {
+            show_address(rt, port);
+        }
     }
 
     fn is_unchanged(&mut self, rt: &HostRuntime) -> bool {
-        self.0.are_unchanged(rt)
+        self.watched.are_unchanged(rt)
     }
 }
 
@@ -255,6 +275,26 @@ fn show_address(rt: &HostRuntime, port: u16) {
     }
 }
 
+/// Asks whether a driver has the office's key. Then `listen` is refused (S2), and `serve` goes on with a sentence for a person on standard
+/// error. Returns the ending of a service that doesn't begin.
+fn key_ending<K: Keeper>(
+    rt: &HostRuntime,
+    keeper: &mut K,
+    path: &str,
+    key: &OfficeKey<'_>,
+    listens: bool,
+) -> Option<Ending> {
+    match keeper.who(key.text().as_bytes()) {
+        Ok(None) => None,
+        Ok(Some(_)) if listens => Some(refused(StoreFault::KeyTaken)),
+        Ok(Some(_)) => {
+            let _ = eprint!(rt; "tacho: {path}: {OFFICE_KEY}\n");
+            None
+        }
+        Err(fault) => Some(refused(fault)),
+    }
+}
+
 /// `tacho serve`, and `tacho listen` with the page files: answers `count` connections on a port of 127.0.0.1, at an existing archive. Once its
 /// files are lost no connection is left to close, so that nothing is written to what is in their place.
 #[inline(never)]
@@ -262,7 +302,7 @@ fn serve_requests<S: Alter + Drop>(
     rt: &HostRuntime,
     conn: Connection<S>,
     path: &str,
-    key: &str,
+    key: &OfficeKey<'_>,
     port: u16,
     count: u32,
     files: &[PageFile],
@@ -273,24 +313,16 @@ fn serve_requests<S: Alter + Drop>(
         Ok(archive) => archive,
         Err(refusal) => return (refused(refusal.0), Some(refusal.1)),
     };
+    let listens = !files.is_empty();
+    if let Some(ending) = key_ending(rt, &mut archive, path, key, listens) {
+        return (ending, Some(archive.close()));
+    }
     let Ok(watched) = Watched::new(rt, path) else {
         return (refused(StoreFault::Memory), Some(archive.close()));
     };
-    let Ok(listener) = listen(rt, port) else {
-        return (Ending::NoPort, Some(archive.close()));
-    };
-    if !files.is_empty() {
-        show_address(rt, port);
-    }
-    let ending = match serve(
-        rt,
-        &mut archive,
-        &mut Files(watched),
-        key,
-        files,
-        &listener,
-        count,
-    ) {
+    let page_port = if listens { Some(port) } else { None };
+    let mut place = Files { watched, page_port };
+    let ending = match serve(rt, &mut archive, &mut place, key, files, port, count) {
         Ok(()) => Ending::Told(0, None),
         Err(ServeFault::Device) => Ending::NoPort,
         Err(ServeFault::Store) => return (Ending::Lost, None),

@@ -15,8 +15,9 @@ use std::rt::Env;
 use tacho_cli::{Asked, Job, Usage, asked_early, help_of, help_text, tell_answer, usage_text};
 use tacho_desk::Fault;
 use tacho_disk::card_files;
+use tacho_serve::OfficeKey;
 use tacho_sheet::SheetFault;
-use tacho_state::{Column, is_key};
+use tacho_state::Column;
 use tacho_time::Device;
 
 /// The arguments of the command line, including the program's name.
@@ -27,6 +28,11 @@ fn words(rt: &(impl Env + AllocGlobal)) -> io::Result<Vec<String>> {
 /// Prints the line of a fault, and returns the program's status. Allocates no memory.
 fn refuse(rt: &HostRuntime, fault: Fault) -> u8 {
     tell_answer(&mut Device::new(rt.stdout()), &Err(fault))
+}
+
+/// Prints the line of a text that isn't a key, E9, and returns the program's status.
+fn refuse_key(rt: &HostRuntime) -> u8 {
+    refuse(rt, Fault::from(SheetFault::Column(Column::Key)))
 }
 
 /// Reports that memory ran out.
@@ -71,24 +77,30 @@ fn run(rt: &HostRuntime, job: Job<'_>) -> u8 {
         Job::Check { archive } => at_file(rt, archive, Work::Check),
         Job::Carry { archive, new, date } => carry_on(rt, archive, new, date),
         Job::AtDesk(job) => at_file(rt, job.archive, Work::Task(job)),
-        Job::Serve { key, .. } if !is_key(key) => {
-            refuse(rt, Fault::from(SheetFault::Column(Column::Key)))
-        }
         Job::Serve {
             archive,
             key,
             port,
             count,
-        } => at_file(rt, archive, Work::Serve { key, port, count }),
+        } => match OfficeKey::new(key) {
+            Some(key) => {
+                let key = &key;
+                at_file(rt, archive, Work::Serve { key, port, count })
+            }
+            None => refuse_key(rt),
+        },
         Job::Listen {
             archive,
             port,
             count,
         } => match tacho_cli::office_key(alloc, &mut reader, &mut writer) {
-            Ok(key) => {
-                let key = key.as_str();
-                at_file(rt, archive, Work::Listen { key, port, count })
-            }
+            Ok(text) => match OfficeKey::new(text.as_str()) {
+                Some(key) => {
+                    let key = &key;
+                    at_file(rt, archive, Work::Listen { key, port, count })
+                }
+                None => refuse_key(rt),
+            },
             Err(status) => status,
         },
         Job::Version => tacho_cli::version(&mut writer),
