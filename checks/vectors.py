@@ -6,10 +6,13 @@ Arguments: the programs `tacho`, `tool_rows` and `tool_script`. All cases are ma
 anew for a part of them, and a part of the changes is tried, chosen by a fixed rule: `--all` does so with all. `--write` writes the
 vectors, and needs no program; it takes some minutes. The last line is 'N passed, M failed'."""
 import argparse
+import contextlib
 import functools
+import io
 import json
 import os
 import re
+import shutil
 import subprocess
 import sys
 import tempfile
@@ -17,7 +20,10 @@ from collections.abc import Callable, Iterable, Iterator
 from typing import Any
 
 from inputs import vector_ahead, vector_cards, vector_requests, vector_stretches, vector_texts, vector_timelines
-from lib import changes, counting, files, other_choices, programs, same_changes, script, vector_changes, vector_sets, wrong_readings
+from lib import (
+    changes, counting, files, other_choices, programs, same_changes, script, vector_changes, vector_pages, vector_schemas, vector_sets,
+    wrong_readings,
+)
 from lib.vector_sets import SLOW, Case, Made
 
 run = vector_sets.runner()
@@ -26,11 +32,17 @@ MAKERS: dict[str, Callable[[], list[Made]]] = {
     "words": vector_cards.words, "chains": vector_cards.chains, "files": vector_cards.card_files, "timelines": vector_timelines.timelines,
     "stretches": vector_stretches.stretches, "ahead": vector_ahead.forecasts, "csv": vector_texts.texts, "http": vector_requests.requests,
 }
-LARGEST = 4_000_000  # bytes of the folder
+LARGEST = 5_000_000  # bytes of the folder
+LONGEST_LINE = 32_768  # bytes
+SECONDS = 30  # within which a server has to answer
 LONGEST_WHY = 260
 TAGGED, TRIED, RUN = 60, 15, 40  # each 60th case has its tags found anew, each 15th change is tried, each 40th case is run by run.py
 CHANGES = os.path.join(vector_sets.FOLDER, "changes.jsonl")
-CHOICES = os.path.join(vector_sets.FOLDER, "choices.md")
+IDS = os.path.join(vector_sets.FOLDER, "ids.json")
+OTHERWISE = os.path.join(vector_sets.FOLDER, "law", "otherwise.jsonl")
+VERSION = os.path.join(vector_sets.FOLDER, "VERSION")
+HISTORY = os.path.join(vector_sets.FOLDER, "history.md")
+CHOICES = os.path.join(vector_sets.FOLDER, "law", "choices.md")
 CHANGE_KEYS = ["program", "function", "old", "new", "turn"]
 INPUT_LIMIT = 262_144
 
@@ -39,15 +51,51 @@ INPUT_LIMIT = 262_144
 
 
 def made_cases(name: str) -> list[tuple[str, Made]]:
-    """The cases of a set with their ids, without those that are given what one before them is given."""
-    seen = set()
-    found = []
-    for identifier, made in vector_sets.numbered(MAKERS[name]()):
+    """The cases of a set with their ids, without those that are given what one before them is given. A case keeps the id that it has in the
+    set, and a new one gets the number after the last that was given."""
+    known = {json.dumps(case["input"]): case["id"] for case in vector_sets.cases_in(name)}
+    last = {generator: given["last"] for generator, given in ids_in().get(name, {}).items()}
+    found: dict[str, tuple[str, Made]] = {}
+    for made in MAKERS[name]():
         given = json.dumps(made.given)
-        if given not in seen:
-            seen.add(given)
-            found.append((identifier, made))
+        if given in found:
+            continue
+        identifier = known.get(given, "")
+        if identifier.rsplit("-", 1)[0] != made.generator:
+            last[made.generator] = last.get(made.generator, 0) + 1
+            identifier = f"{made.generator}-{last[made.generator]:03}"
+        found[given] = identifier, made
+    return list(found.values())
+
+
+def ids_in() -> dict[str, dict[str, dict[str, Any]]]:
+    """By the set and the generator: the last number that was given, and the numbers that no case has any more."""
+    with open(IDS, encoding="ascii") as file:
+        return json.load(file)
+
+
+def ids_of(name: str) -> dict[str, dict[str, Any]]:
+    """The same of a set, from its cases and from what was given before."""
+    numbers: dict[str, set[int]] = {}
+    for case in vector_sets.cases_in(name):
+        numbers.setdefault(case["id"].rsplit("-", 1)[0], set()).add(number_of(case["id"]))
+    found = {}
+    for generator, given in {**{generator: {"last": 0} for generator in numbers}, **ids_in().get(name, {})}.items():
+        there = numbers.get(generator, set())
+        last = max(given["last"], *there, 0)
+        found[generator] = {"last": last, "gone": sorted({*range(1, last + 1)} - there)}
     return found
+
+
+def write_ids() -> None:
+    """Writes which ids were given."""
+    found = {name: ids_of(name) for name in vector_sets.NAMES}
+    with open(IDS, "w", encoding="ascii") as file:
+        sets = []
+        for name, ids in found.items():
+            lines = ",\n".join(f'  "{generator}": {json.dumps(given)}' for generator, given in ids.items())
+            sets.append(f'"{name}": {{\n{lines}\n}}')
+        file.write("{" + ",\n".join(sets) + "}\n")
 
 
 def case_of(name: str, identifier: str, made: Made) -> Case:
@@ -61,15 +109,52 @@ def say(text: str) -> None:
     print(text, flush=True)
 
 
-def write_set(name: str) -> list[Case]:
-    """Makes the cases of a set, writes them, and returns them."""
+def write_set(name: str, is_anew: bool) -> list[Case]:
+    """Makes the cases of a set, writes them, and returns them. Cases that are as they were keep their tags, and what is answered otherwise,
+    unless all is found anew."""
     cases = [case_of(name, identifier, made) for identifier, made in made_cases(name)]
+    before = {} if is_anew else {case["id"]: case for case in vector_sets.cases_in(name)}
+    kept = otherwise_in()
     for case in cases:
-        case["tags"] = other_choices.tags_of(vector_changes.Known(name, case))
+        old = before.get(case["id"])
+        one = f"{name}/{case['id']}"
+        if old is None or old["expected"] != case["expected"]:
+            kept[one] = patches_of(name, case)
+            case["tags"] = list(kept[one])
+        else:
+            case["tags"] = old["tags"]
+            if {*old["tags"]} != kept.get(one, {}).keys():
+                kept[one] = patches_of(name, case, old["tags"])
     with open(vector_sets.path_of(name), "w", encoding="ascii") as file:
         file.writelines(map(vector_sets.line_of, cases))
+    write_otherwise(name, {f"{name}/{case['id']}": kept.get(f"{name}/{case['id']}", {}) for case in cases})
     say(f"{name}: {len(cases)} cases are written")
     return cases
+
+
+def patches_of(name: str, case: Case, tried: Iterable[str] | None = None) -> dict[str, Any]:
+    """By the tags of a case what of its answer is different if that is chosen otherwise. All choices are tried, or only some."""
+    answers = other_choices.otherwise_of(vector_changes.Known(name, case), None if tried is None else [*tried])
+    return {tag: other_choices.patch_of(case["expected"], answer) for tag, answer in answers.items()}
+
+
+def otherwise_in() -> dict[str, dict[str, Any]]:
+    """The same of all cases, as it is written."""
+    found: dict[str, dict[str, Any]] = {}
+    for line in map(json.loads, vector_sets.lines_in(OTHERWISE)):
+        found.setdefault(line["case"], {})[line["tag"]] = line["expected"]
+    return found
+
+
+def write_otherwise(name: str, found: dict[str, dict[str, Any]]) -> None:
+    """Writes the same of a set in the place of what was written of it."""
+    kept = {one: answers for one, answers in otherwise_in().items() if not one.startswith(f"{name}/")}
+    both = {**kept, **found}
+    order = [one for other in vector_sets.NAMES for one in both if one.startswith(f"{other}/")]
+    with open(OTHERWISE, "w", encoding="ascii") as file:
+        for one in order:
+            for tag, patch in both[one].items():
+                file.write(json.dumps({"case": one, "tag": tag, "expected": patch}, separators=(",", ":")) + "\n")
 
 
 def with_tag(tag: str) -> list[tuple[str, Case]]:
@@ -92,24 +177,50 @@ def write_counts() -> None:
         file.write(page)
 
 
-def write(names: Iterable[str]) -> int:
+def key_of(line: dict[str, Any]) -> tuple[Any, ...]:
+    """What shows a change in its line."""
+    return tuple(line[key] for key in CHANGE_KEYS)
+
+
+def write_written(names: Iterable[str], before: dict[tuple[Any, ...], list[str]]) -> list[dict[str, Any]]:
+    """The lines of the changes that are written down, with all cases that notice each; those of other sets are as they were."""
+    lines = []
+    for change in vector_changes.written():
+        if not set(change.written.sets) & set(names):
+            lines += [change.line(before[change.key])] if change.key in before else []
+            continue
+        cases = known_cases(change.written.sets)
+        lines.append(change.line(change.noticing(case for one, case in cases.items() if change.is_expected(one))))
+    return lines
+
+
+def write(names: Iterable[str], is_anew: bool) -> int:
     """Writes some sets, and the changes that their cases notice; prints the changes that no case notices, and the cases that notice none.
     The status is 1 if there are any."""
+    vector_pages.write()
+    vector_schemas.write()
     for name in names:
-        write_set(name)
-    lines, is_whole = [], True
+        write_set(name, is_anew)
+    write_ids()
+    before = {key_of(line): line["cases"] for line in changes_in()}
+    cases_of.cache_clear()
+    written = write_written(names, before)
+    needed = {one for line in written for one in line["cases"]}
+    lines, is_whole = [], all(line["cases"] for line in written)
     for program, sets in vector_changes.SETS_OF.items():
         if not set(sets) & set(names):
-            lines += [line for line in changes_in() if line["program"] == f"slow_{program}"]
+            lines += [change.line(before[change.key]) for change in vector_changes.changes_of(program) if change.key in before]
             continue
         known = [vector_changes.Known(name, case) for name in sets for case in vector_sets.cases_in(name)]
-        found, unnoticed, lost = vector_changes.matched(program, known, say)
+        there = {one.id for one in known}
+        noticed = {} if is_anew else {key: [one for one in cases if one in there] for key, cases in before.items()}
+        found, unnoticed, lost = vector_changes.matched(program, known, noticed, say, needed)
         lines += found
         for text in [f"no case notices {change}" for change in unnoticed] + [f"{one} notices no change" for one in lost]:
             is_whole = False
             say(f"{program}: {text}")
     with open(CHANGES, "w", encoding="ascii") as file:
-        file.writelines(json.dumps(line, separators=(",", ":")) + "\n" for line in lines)
+        file.writelines(json.dumps(line, separators=(",", ":")) + "\n" for line in lines + written)
     write_counts()
     return 0 if is_whole else 1
 
@@ -129,19 +240,19 @@ def told(program: list[str], words: list[str], given: bytes) -> tuple[str, int]:
 
 def of_cards(tacho: str) -> counting.Comparisons:
     """The comparisons of values and card files, each by a process."""
-    with tempfile.TemporaryDirectory() as folder:
-        program = run.Program([tacho], folder)
-        for name in ("words", "chains", "files"):
-            for number, case in enumerate(vector_sets.cases_in(name), 1):
-                yield f"{name}/{case['id']}", *run.answer_of(program, name, number, case)
+    for name in ("words", "chains", "files"):
+        for number, case in enumerate(vector_sets.cases_in(name), 1):
+            for step in run.STEPS[name](case["input"], case["expected"], number):
+                yield f"{name}/{case['id']}: {step.words[0]}", told([tacho], step.words, step.given), (step.text, step.status)
 
 
 def of_requests(tacho: str) -> counting.Comparisons:
     """The comparisons of requests, each case with a server of its own."""
     with tempfile.TemporaryDirectory() as folder:
-        program = run.Program([tacho], folder)
-        for number, case in enumerate(vector_sets.cases_in("http"), 1):
-            yield f"http/{case['id']}", *run.answer_of(program, "http", number, case)
+        program = run.Program([tacho], folder, SECONDS)
+        for case in vector_sets.cases_in("http"):
+            replies = program.serve([vector_sets.bytes_of(pieces) for pieces in case["input"]["requests"]])
+            yield f"http/{case['id']}", replies, [vector_sets.bytes_of(pieces) for pieces in case["expected"]["replies"]]
 
 
 def line_for_rows(given: vector_sets.Given) -> str:
@@ -194,35 +305,28 @@ def of_timelines(rows: str) -> counting.Comparisons:
             yield f"timelines/{case['id']}", report_in_rows(lines[3 * place : 3 * place + 3]), case["expected"]
 
 
-def asked_together(program: list[str], questions: dict[str, Any]) -> dict[str, Any]:
-    """The answers to questions, by names, whose commands are given to one archive: the first of each, then the second of each, and so on
-    (each needs a driver of its own). The program does the commands of a list in one process."""
-    answers: dict[str, Any] = {}
-    pending: dict[str, Any] = dict.fromkeys(questions)
+def of_steps(tool: str, steps: list[tuple[str, Any]]) -> counting.Comparisons:
+    """The comparisons of steps, by names, whose commands are given to one archive. The program does all of them in one process."""
     with tempfile.TemporaryDirectory() as folder:
-        path = os.path.join(folder, "archive.db")
-        while pending:
-            commands = {}
-            for name, last in pending.items():
-                try:
-                    commands[name] = questions[name].send(last)
-                except StopIteration as end:
-                    answers[name] = end.value
-            found = script.answers([*program, "archive", path], folder, list(commands.values())) if commands else []
-            pending = {name: (text.decode(), status) for name, (text, status) in zip(commands, found[1:])}
-    return answers
+        words = [tool, "archive", os.path.join(folder, "archive.db")]
+        found = script.answers(words, folder, [(step.words, step.given) for _, step in steps])
+        for (name, step), answer in zip(steps, found[1:]):
+            yield f"{name}: {step.words[0]}", answer, (step.text.encode(), step.status)
+        yield "the opening, and the end", (len(found), found[0], found[-1]), (len(steps) + 2, (b"", 0), (b"", 0))
 
 
 def of_archives(tool: str) -> counting.Comparisons:
-    """The comparisons of stretches, of forecasts and of hours by CSV, all in one archive each, and of drivers by CSV, each in one of its own."""
+    """The comparisons of stretches, of forecasts and of hours by CSV, all in one archive each, and of drivers by CSV, each in one of its
+    own."""
     for name in ("stretches", "ahead", "csv"):
-        cases = {case["id"]: case for case in vector_sets.cases_in(name)}
-        apart = [identifier for identifier, case in cases.items() if case["input"].get("of") == "driver"]
-        asked = {identifier: run.QUESTIONS[name](case["input"], number) for number, (identifier, case) in enumerate(cases.items(), 1)}
-        together = asked_together([tool], {identifier: question for identifier, question in asked.items() if identifier not in apart})
-        for identifier, question in asked.items():
-            answer = asked_together([tool], {identifier: question}) if identifier in apart else together
-            yield f"{name}/{identifier}", answer[identifier], cases[identifier]["expected"]
+        together = []
+        for number, case in enumerate(vector_sets.cases_in(name), 1):
+            steps = [(f"{name}/{case['id']}", step) for step in run.STEPS[name](case["input"], case["expected"], number)]
+            if case["input"].get("of") == "driver":
+                yield from of_steps(tool, steps)
+            else:
+                together += steps
+        yield from of_steps(tool, together)
 
 
 # Anew
@@ -242,7 +346,9 @@ def of_set(name: str, tagged: int) -> counting.Comparisons:
     """The comparisons of a set with what is made anew of it, of a part also the tags."""
     lines = {case["id"]: (case, line) for case, line in zip(vector_sets.cases_in(name), vector_sets.lines_in(vector_sets.path_of(name)))}
     made = made_cases(name)
+    kept = otherwise_in()
     yield f"{name}: the ids", list(lines), [identifier for identifier, _ in made]
+    yield f"{name}: the ids that were given", ids_in()[name], ids_of(name)
     yield f"{name}: the number of lines", len(vector_sets.lines_in(vector_sets.path_of(name))), len(made)
     for identifier, one in made:
         if identifier not in lines:
@@ -251,7 +357,9 @@ def of_set(name: str, tagged: int) -> counting.Comparisons:
         expected = vector_sets.ANSWERS[name](SLOW, one.given)
         wanted = {**case, "why": one.why, "rule": one.rule, "input": one.given, "expected": expected}
         if is_part(identifier, tagged) and (tagged == 1 or not is_long(case)):
-            wanted["tags"] = other_choices.tags_of(vector_changes.Known(name, wanted))
+            patches = patches_of(name, wanted)
+            wanted["tags"] = list(patches)
+            yield f"{name}/{identifier}: what is answered otherwise", kept.get(f"{name}/{identifier}", {}), patches
         yield f"{name}/{identifier}: its line", line, vector_sets.line_of(wanted)
         yield f"{name}/{identifier}: what its sentence says", vector_sets.is_true(one.rule, one.claim, case["expected"]), True
 
@@ -262,14 +370,34 @@ def is_sentence(why: str) -> bool:
 
 
 def of_folder() -> counting.Comparisons:
-    """The comparisons of the size of the folder, its pages, and its sentences."""
-    names = os.listdir(vector_sets.FOLDER)
-    size = sum(os.path.getsize(os.path.join(vector_sets.FOLDER,
-                                            name)) for name in names if os.path.isfile(os.path.join(vector_sets.FOLDER, name)))
+    """The comparisons of the folder: its size, its pages, its version, its schemas, and its sentences."""
+    paths = [os.path.join(folder, name) for folder, _, names in os.walk(vector_sets.FOLDER) for name in names]
+    size = sum(map(os.path.getsize, paths))
     yield f"{size} bytes are at most {LARGEST}", size <= LARGEST, True
+    yield "the sets of run.py", run.PARTS, vector_sets.PARTS
+    version = files.read(VERSION).decode()
+    history = files.read(HISTORY).decode()
+    yield "the page of what changed begins with the version", re.findall(r"^## Version (\d+)$", history, re.MULTILINE)[:1], version.split()
     for name in vector_sets.NAMES:
-        yield f"the page of {name}", f"{name}.md" in names, True
-        yield f"sentences of {name}", [case["id"] for case in vector_sets.cases_in(name) if not is_sentence(case["why"])], []
+        path = vector_sets.path_of(name)
+        yield f"the page of {name}", os.path.isfile(path.removesuffix(".jsonl") + ".md"), True
+        yield f"the schema of {name}", files.read(vector_schemas.path_of(name)).decode(), vector_schemas.text_of(name)
+        lines = vector_sets.lines_in(path)
+        yield f"lines of {name} that are too long", [line[:30] for line in lines if len(line) > LONGEST_LINE], []
+        cases = cases_of(name)
+        yield f"sentences of {name}", [case["id"] for case in cases if not is_sentence(case["why"])], []
+        yield f"cases of {name} not as its schema says", [faults for case in cases if (faults := vector_schemas.faults_of(name, case))], []
+        wrong = {**cases[0], "expected": {**cases[0]["expected"], "more": 0}}
+        yield f"a case of {name} with a key too many is found", bool(vector_schemas.faults_of(name, wrong)), True
+    for page in vector_pages.PAGES:
+        yield f"{page.path}, as {page.source} has it", files.read(vector_pages.path_of(page)).decode(), vector_pages.text_of(page)
+    for path in paths:
+        if path.endswith(".md"):
+            folder = os.path.dirname(path)
+            linked = re.findall(r"\]\(([^)#:]+)\)", files.read(path).decode())
+            missing = [one for one in linked if not os.path.exists(os.path.join(folder, one)) or os.path.relpath(
+                os.path.join(folder, one), vector_sets.FOLDER).startswith("..")]
+            yield f"links of {os.path.relpath(path, vector_sets.FOLDER)} that lead nowhere, or out of the folder", missing, []
 
 
 # Changes
@@ -295,7 +423,7 @@ def known_of(one: str) -> vector_changes.Known:
 
 def of_changes(of: int) -> counting.Comparisons:
     """The comparisons of the changes: each is listed, and of a part a case that is listed for it notices it, and names its rule."""
-    listed = {tuple(line[key] for key in CHANGE_KEYS): line["cases"] for line in changes_in()}
+    listed = {key_of(line): line["cases"] for line in changes_in()}
     needed = {one for cases in listed.values() for one in cases}
     for program, sets in vector_changes.SETS_OF.items():
         cases = known_cases(sets)
@@ -311,6 +439,18 @@ def of_changes(of: int) -> counting.Comparisons:
             if noticing and change.rules:
                 names = [rule for rule in change.rules if any(rule in cases[one][1]["why"] for one in noticing)]
                 yield f"{program}: a case that notices {name} names its rule", bool(names), True
+    for change in vector_changes.written():
+        cases_listed = listed.get(change.key, [])
+        yield f"{change.program}: {change.name} is listed for cases of its generators", bool(cases_listed) and all(
+            map(change.is_expected, cases_listed)), True
+        if of == 1:
+            noticed = change.noticing(known_cases(change.written.sets).values())
+            yield f"{change.program}: cases that don't notice {change.name}", sorted({*cases_listed} - {*noticed}), []
+            yield f"{change.program}: cases of other generators that notice {change.name}", [
+                one for one in noticed if not change.is_expected(one)], []
+        elif cases_listed:
+            least = min(cases_listed, key=lambda one: known_of(one).cost)
+            yield f"{change.program}: {least} notices {change.name}", change.is_noticed_by(known_of(least)), True
 
 
 def of_choices(of: int) -> counting.Comparisons:
@@ -324,6 +464,10 @@ def of_choices(of: int) -> counting.Comparisons:
         for name, case in found[:1] if place % of == 0 else []:
             noticed = known_of(f"{name}/{case['id']}").notices(other_choices.reading_of(choice.tag), True)
             yield f"{name}/{case['id']} notices that {choice.tag} is chosen otherwise", noticed, True
+    for one, pairs in other_choices.TOGETHER.items():
+        for pair in pairs:
+            alone = [tag for tag in pair if other_choices.differs_by(known_of(one), tag)]
+            yield f"{one} notices {' and '.join(pair)} only together", (alone, other_choices.differs_by(known_of(one), *pair)), ([], True)
 
 
 # The runner and the adapter
@@ -346,6 +490,98 @@ def options_of(cases: Iterable[str]) -> list[str]:
     return [word for one in cases for word in ("--case", one)]
 
 
+ADAPTERS = os.path.join(vector_sets.FOLDER, "adapters")
+LINES = [sys.executable, os.path.join(files.CHECKS, "wrong_lines.py")]
+
+
+def of_adapters() -> counting.Comparisons:
+    """The comparisons of the examples of programs that answer lines, beside vectors/run.py."""
+    count = len(cases_of("words")) + len(cases_of("chains"))
+    options = ["--lines", "--set", "words", "--set", "chains"]
+    passed = (0, [f"{count} passed, 0 failed"])
+    yield "run.py with cards.py", run_by([sys.executable, os.path.join(ADAPTERS, "cards.py")], *options), passed
+    if node := shutil.which("node"):
+        yield "run.py with cards.js", run_by([node, os.path.join(ADAPTERS, "cards.js")], *options), passed
+    else:
+        say("left out: cards.js, since node isn't there")
+    with tempfile.TemporaryDirectory() as folder:
+        alone = shutil.copytree(vector_sets.FOLDER, os.path.join(folder, "alone"))
+        words = [sys.executable, os.path.join(alone, "run.py"), *options, sys.executable, os.path.join(alone, "adapters", "cards.py")]
+        made = subprocess.run(words, stdin=subprocess.DEVNULL, capture_output=True, text=True, cwd=folder, env={"PATH": os.environ["PATH"]})
+        yield "run.py in a copy of the folder", (made.returncode, made.stdout.splitlines()), passed
+
+
+def failures_of(make: Any, words: list[str], cases: Iterable[str], seconds: float) -> str:
+    """Why some cases fail with a program, as vectors/run.py says it, in lines."""
+    found = []
+    with tempfile.TemporaryDirectory() as folder:
+        program = make(words, folder, seconds)
+        for number, one in enumerate(cases, 1):
+            name, _ = one.split("/")
+            with noted(found):
+                program.try_case(name, number, known_cases([name])[one][1], [])
+        with noted(found):
+            program.close()
+    return "\n".join(found)
+
+
+@contextlib.contextmanager
+def noted(found: list[str]) -> Iterator[None]:
+    """Notes a failure in a list."""
+    try:
+        yield
+    except run.Failure as failure:
+        found.append(str(failure))
+
+
+def of_wrong_lines() -> counting.Comparisons:
+    """The comparisons of programs that answer lines wrongly: each has to fail, and the failure says why."""
+    some = [one for name in vector_sets.NAMES for one in list(known_cases([name]))[:2]]
+    right = run_by([*LINES, "right"], "--lines", "--jobs", "2", *options_of(some))
+    yield "run.py with lines that are right, by two processes", right, (0, [f"{len(some)} passed, 0 failed"])
+    for kind, why in (
+        ("fraction", "another answer"), ("id", "isn't an answer"), ("twice", "isn't an answer"), ("text", "isn't JSON"),
+        ("silent", "no line within 2 seconds"), ("ended", "the program has ended"), ("key", "another answer"),
+        ("missing", "another answer"), ("after", "prints more"), ("open", "doesn't end"), ("status", "the status 3"),
+    ):
+        failures = failures_of(run.Lines, [*LINES, kind], ["timelines/B1-001", "timelines/B1-002"], 2)
+        yield f"lines that are wrong: {kind}", why in failures, True
+    shown = failures_of(run.Lines, [*LINES, "error"], ["timelines/B1-001"], SECONDS)
+    yield "a failure shows standard error", "something is wrong" in shown, True
+    yield "a failure shows the first line that differs", "expected EXAMINED TO 20" in shown, True
+
+
+def of_wrong_texts() -> counting.Comparisons:
+    """The comparisons of adapters whose text or status is wrong in a way that no answer shows."""
+    adapter = [sys.executable, os.path.join(files.CHECKS, "wrong_adapter.py")]
+    for kind, one, why in (
+        ("line", "words/bits-001", "line 2"), ("twice", "timelines/B3-091", "'breaches 1' prints another text"),
+        ("late", "timelines/B3-091", "'owed 1' prints another text"), ("monday", "stretches/stretches-007", "expected FROM"),
+        ("number", "csv/hours-025", "'entries 1' prints another text"), ("status", "words/bits-001", "has the status 3"),
+        ("hang", "words/bits-001", "'dump' takes more than 2 seconds"),
+    ):
+        yield f"a text that is wrong: {kind}, in {one}", why in failures_of(run.Program, [*adapter, f"text {kind}"], [one], 2), True
+
+
+def is_refused(*options: str) -> bool:
+    """Whether vectors/run.py refuses some options."""
+    try:
+        with contextlib.redirect_stderr(io.StringIO()):
+            run.arguments_of([*options, "PROGRAM"])
+    except SystemExit as end:
+        return end.code == 2
+    return False
+
+
+def of_options() -> counting.Comparisons:
+    """The comparisons of options that vectors/run.py refuses, and that it takes."""
+    for options in (("--case", "timelines/B1-000"), ("--case", "B1-001"), ("--leave-out", "ut"), ("--otherwise", "ut"), ("--rule", "B11"),
+                    ("--set", "word"), ("--part", "laws"), ("--level", "hours"), ("--jobs", "0")):
+        yield f"run.py refuses {' '.join(options)}", is_refused(*options), True
+    for options in (("--case", "timelines/B1-001"), ("--leave-out", "utc"), ("--rule", "B10"), ("--level", "days"), ("--part", "product")):
+        yield f"run.py takes {' '.join(options)}", is_refused(*options), False
+
+
 def of_runner(tacho: str, of: int) -> counting.Comparisons:
     """The comparisons of what vectors/run.py prints for our program, and for adapters that are right and wrong."""
     chosen = sample(of)
@@ -359,6 +595,17 @@ def of_runner(tacho: str, of: int) -> counting.Comparisons:
     status, lines = run_by([*adapter, "B1 270"], "--case", first)
     yield "the status and the last line of run.py with an adapter that is wrong", (status, lines[-1:]), (1, ["0 passed, 1 failed"])
     yield "the failure names the case and its sentence", lines[0].startswith(f"failed: {first}: B1 (Article 7)"), True
+    one_rule = run_by([*adapter, "B2 540"], "--rule", "B1", "--case", "timelines/B1-003")
+    yield "the breaches of another rule don't count", one_rule, (0, ["1 passed, 0 failed"])
+    yield from of_options()
+    yield from of_adapters()
+    yield from of_wrong_lines()
+    yield from of_wrong_texts()
+    for tag in ("stretch-alone", "last-word", "availability"):
+        name, case = with_tag(tag)[0]
+        program, options = [*LINES, f"otherwise {tag}"], ["--lines", "--case", f"{name}/{case['id']}"]
+        yield f"a program that chooses {tag} otherwise", run_by(program, *options, "--otherwise", tag), (0, ["1 passed, 0 failed"])
+        yield f"the same, where {tag} is expected", run_by(program, *options)[0], 1
 
 
 def of_adapter() -> counting.Comparisons:
@@ -404,7 +651,7 @@ def main() -> int:
     """Compares, or writes."""
     arguments = arguments_of(sys.argv[1:])
     if arguments.write is not None:
-        return write(arguments.write or vector_sets.NAMES)
+        return write(arguments.write or vector_sets.NAMES, arguments.all)
     assert same_changes.SAME.keys() == vector_changes.MODULES.keys()
     return counting.count(comparisons(*arguments.programs, arguments.all))
 

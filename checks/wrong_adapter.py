@@ -2,11 +2,13 @@
 """An adapter that is wrong on purpose, to try vectors/run.py: it speaks the command line of docs/FORMATS.md, as far as the vectors use it,
 and answers by the slow programs, one of which has a wrong reading.
 
-Arguments: the name of a wrong reading (lib/wrong_readings.py), or `right`, and then a command with its arguments. What lies at the
-archive's path is the slow office, written by Python's module `pickle`."""
+Arguments: the name of a wrong reading (lib/wrong_readings.py), `right`, or `text KIND` for a text that is right but for its form, and then
+a command with its arguments. What lies at the archive's path is the slow office, written by Python's module `pickle`."""
 import pickle
+import re
 import socket
 import sys
+import time
 
 from lib import changes, vector_changes, wrong_readings
 from slow import slow_office, slow_reader, slow_server
@@ -75,9 +77,32 @@ def answer(command: str, others: list[str]) -> tuple[bytes, int]:
     return of_archive(command, others[0], others[1:])
 
 
+READINGS = ("dump", "breaches", "owed", "stretches", "debts", "entries")
+# By the kind of a wrong text: a pattern, and what is put in its place.
+WRONG_TEXTS = {
+    "line": (rb"\Z", b"nothing else\n"), "twice": (rb"\A(.*\n)", rb"\1\1"), "late": (rb" open\n", b" late\n"),
+    "monday": (rb"FROM (.{9}).", rb"FROM \g<1>9"), "number": (rb"(?m)^1 ", b"2 "),
+}
+
+
+def wrong_text(kind: str, command: str, told: bytes, status: int) -> tuple[bytes, int]:
+    """What a command prints, wrong in a way, and its status."""
+    if command not in READINGS:
+        return told, status
+    if kind == "hang":
+        time.sleep(60)
+    if kind == "status":
+        return told, 3
+    return re.sub(*WRONG_TEXTS[kind], told, count=1), status
+
+
 def main() -> int:
     """Answers a command by the wrong reading, and returns the status."""
     name, command, *others = sys.argv[1:]
+    if name.startswith("text "):
+        told, status = wrong_text(name.removeprefix("text "), command, *answer(command, others))
+        sys.stdout.buffer.write(told)
+        return status
     if name != "right":
         wrong = wrong_readings.wrong_named(name)
         changes.plant(vector_changes.MODULES[wrong.program], wrong.pairs)

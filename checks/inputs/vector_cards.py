@@ -4,7 +4,7 @@ import struct
 from collections.abc import Iterator, Sequence
 
 from inputs.random_cards import ACTIVITY, IDENTIFICATION, activity_data, block, record, word
-from lib.vector_sets import Made
+from lib.vector_sets import Made, digits_of
 
 DAY = 19_786  # 2024-03-04
 FIRST_DAY, LAST_DAY = 10_959, 47_481  # 2000-01-03 and 2099-12-31
@@ -22,7 +22,7 @@ def clock(minute: int) -> str:
 
 def made(generator: str, rule: str, why: str, claim: str, value: bytes) -> Made:
     """A case with a value of activity data."""
-    return Made(generator, f"{rule}: {why}.", rule, claim, {"value": value.hex()})
+    return Made(generator, f"{rule}: {why}.", rule, claim, {"value": digits_of(value)})
 
 
 def closed(day: int, words: Sequence[int]) -> bytes:
@@ -124,9 +124,23 @@ def last_words() -> Iterator[Made]:
     yield made("newest", WORD, "before a day's first word nothing is known", "read", value)
 
 
+def last_at_once() -> Iterator[Made]:
+    """Several last words of the newest record from one minute on."""
+    for count in (3, 4, 5):
+        for first in (0, 600, 1439):
+            words_of = [word(0, 0, (turn + 1) % 4, first) for turn in range(count)]
+            newest = record(DAY + 1, [word(0, 0, REST, 0)] * (first > 0) + words_of)
+            value = activity_data([record(DAY, [word(0, 0, REST, 0)]), newest], 0, 0)
+            what = f"the newest record's last {count} words are of minute {first}: none of them gives anything"
+            yield made("at-once", WORD, what, "read", value)
+    value = activity_data([day_of_work(DAY, (WORK, 300), (DRIVE, 300), (REST, 300)), day_of_work(DAY + 1, (REST, 0))], 0, 0)
+    what = "the last three words of a record that isn't the newest are of one minute: the last holds to midnight"
+    yield made("at-once", WORD, what, "read", value)
+
+
 def words() -> list[Made]:
     """All cases of words."""
-    makers = [single_words, pairs_of_words, minutes_of_words, order_of_words, last_words]
+    makers = [single_words, pairs_of_words, minutes_of_words, order_of_words, last_words, last_at_once]
     return [one for maker in makers for one in maker()]
 
 
@@ -354,9 +368,84 @@ def first_faults() -> Iterator[Made]:
     yield made("first", "C12", "the first record has a word of minute 1440, and the chain would break after it", "fault C12", value)
 
 
+def faulty_second(code: str) -> tuple[bytes, int]:
+    """A record with a fault, and how many bytes after its start the place of the fault is."""
+    if code == "C9":
+        return changed(bytes(4) + SECOND, 2, 13)[4:], 0
+    if code == "C10":
+        return changed(bytes(4) + SECOND, 2, len(SECOND) + 2)[4:], 0
+    if code == "C11":
+        return record(LAST_DAY + 1, [0, 480]), 0
+    return record(DAY + 1, [word(0, 0, REST, 0), word(0, 0, WORK, 480), word(0, 0, DRIVE, 1440 if code == "C12" else 479)]), 16
+
+
+def after_the_end() -> Iterator[Made]:
+    """Faults of a record that goes on, or begins, after the buffer's end: their places count from the buffer's start."""
+    for code in ("C9", "C10", "C11", "C12", "C13"):
+        second, more = faulty_second(code)
+        for place in (0, 1, 4, 21):
+            value = activity_data([FIRST, second], len(FIRST + second) - len(FIRST) - more + place, 0)
+            yield made("after-end", code, f"the second record has {code}, and the fault's place is {place} after the buffer's end",
+                       f"fault {code}", value)
+        value = activity_data([FIRST, second], len(FIRST + second) - len(FIRST) - more - 1, 0)
+        what = f"the second record has {code}, and the fault's place is the buffer's last byte"
+        yield made("after-end", code, what, f"fault {code}", value)
+        if code != "C10":
+            value = activity_data([FIRST, second, SECOND], 2 * len(SECOND) + 3, 9)
+            yield made("after-end", code, f"the second record of three has {code}, in a buffer that has nine bytes more", f"fault {code}",
+                       value)
+
+
+REAL_SIZE = 13_776  # the bytes of the buffer of a driver card of either generation, at most
+
+
+def of_many(words_of: int, minute: int = 0) -> bytes:
+    """A record with as many words of rest from one minute on, and two more."""
+    return record(DAY, [word(0, 0, REST, minute)] * words_of + [word(0, 0, WORK, 480), word(0, 0, DRIVE, 540)])
+
+
+def large_buffers() -> Iterator[Made]:
+    """Buffers as long as that of a real card, and longer: pointers, lengths and places of many bits."""
+    end = record(DAY + 1, [word(0, 0, REST, 0), word(0, 0, WORK, 300)])
+    for oldest, newest in ((0, REAL_SIZE - len(end)), (REAL_SIZE - 10, 6)):
+        filling = record(DAY, [word(0, 0, REST, 0)])
+        room = (newest - oldest) % REAL_SIZE
+        filling = filling[:2] + struct.pack(">H", room) + filling[4:] + bytes(room - len(filling))
+        yield made("large", CHAIN, f"a buffer of 13,776 bytes, as a card may have, whose newest record begins at {newest}", "read",
+                   activity_data([filling, end], oldest, REAL_SIZE - room - len(end)))
+    for bits in range(10, 16):
+        place = 2**bits + 4
+        size = 2 * 2**bits if bits < 15 else 65_531
+        yield made("large", CHAIN, f"both pointers are above {2**bits} in a buffer of {size} bytes", "read",
+                   activity_data([FIRST, end], place, size - len(FIRST + end)))
+    for place in (1_030, 2_050, 4_100, 8_200, 16_400, 32_780, 65_000):
+        for code in ("C9", "C12"):
+            second, more = faulty_second(code)
+            value = activity_data([FIRST, second], place - len(FIRST) - more, 65_531 - len(FIRST + second))
+            yield made("large", code, f"the second record has {code}, at {place} in a buffer of 65,531 bytes", f"fault {code}", value)
+    for size in (32_767, 32_768, 65_531):
+        value = activity_data([FIRST, end], size - 30, size - len(FIRST + end))
+        yield made("large", CHAIN, f"two records lie over the end of a buffer of {size} bytes", "read", value)
+
+
+def many_words() -> Iterator[Made]:
+    """Records of many words."""
+    end = record(DAY + 1, [word(0, 0, REST, 0)])
+    for count in (510, 1_022, 1_438, 1_439, 1_440, 2_046, 4_094, 8_190, 16_382):
+        text = f"{count} words of 00:00 and two later ones, which makes a length of {len(of_many(count))}"
+        yield made("many-words", CHAIN, f"a record has {text}", "read", activity_data([of_many(count), end], 0, 0))
+    each = record(DAY, [word(0, 0, (minute // 360) % 4, minute) for minute in range(1440)])
+    yield made("many-words", CHAIN, "a record has 1,440 words, one for each minute of its day", "read", activity_data([each, end], 0, 0))
+    newest = activity_data([each], 0, 0)
+    yield made("many-words", CHAIN, "the newest record has 1,440 words, one for each minute of its day", "read", newest)
+    for words_of, what, code in (([1440], "of minute 1440", "C12"), ([0], "of 00:00, after one of 09:00", "C13")):
+        value = activity_data([record(DAY, [0] * 9_000 + [word(0, 0, DRIVE, 540), *words_of]), end], 0, 0)
+        yield made("many-words", code, f"the last of 9,002 words is {what}", f"fault {code}", value)
+
+
 def chains() -> list[Made]:
     """All cases of chains."""
-    makers = [wrapped, lengths, broken, pointers, days, sequences, contradictions, first_faults]
+    makers = [wrapped, lengths, broken, pointers, days, sequences, contradictions, first_faults, after_the_end, large_buffers, many_words]
     return [one for maker in makers for one in maker()]
 
 
@@ -382,7 +471,7 @@ def active(kind: int, value: bytes = VALUE) -> bytes:
 
 def made_file(generator: str, rule: str, why: str, claim: str, part: str, *blocks: bytes) -> Made:
     """A case with a card file."""
-    return Made(generator, f"{rule}: {why}.", rule, claim, {"file": b"".join(blocks).hex(), "part": part})
+    return Made(generator, f"{rule}: {why}.", rule, claim, {"file": digits_of(b"".join(blocks)), "part": part})
 
 
 FILE = "card file"
@@ -479,17 +568,25 @@ def holders() -> Iterator[Made]:
                         identified(0, indices=b"12"), active(0), identified(2, indices=b"21", more=9), active(2))
 
 
+BAD = {
+    "C7": bytes(15),
+    "C8": struct.pack(">HH", len(TWO), 0) + TWO,
+    "C9": changed(VALUE, 2, 13),
+    "C10": struct.pack(">HH", 0, 2) + TWO,
+    "C11": activity_data([record(LAST_DAY + 1, [0])], 0, 0),
+    "C12": activity_data([record(DAY, [1440])], 0, 0),
+    "C13": activity_data([record(DAY, [1, 0])], 0, 0),
+}
+
+
+def first_of(one: str, other: str) -> str:
+    """Which fault is reported, of one in the data of kind 00 and of another in those of kind 02."""
+    return one if one in ("C7", "C8") or other not in ("C7", "C8") else other
+
+
 def faults_by_generation() -> Iterator[Made]:
     """Faults of activity data in one generation or in both."""
-    bad = {
-        "C7": bytes(15),
-        "C8": struct.pack(">HH", len(TWO), 0) + TWO,
-        "C9": changed(VALUE, 2, 13),
-        "C10": struct.pack(">HH", 0, 2) + TWO,
-        "C11": activity_data([record(LAST_DAY + 1, [0])], 0, 0),
-        "C12": activity_data([record(DAY, [1440])], 0, 0),
-        "C13": activity_data([record(DAY, [1, 0])], 0, 0),
-    }
+    bad = BAD
     for (code, value), kind in itertools.product(bad.items(), (0, 2)):
         for part in ("both", "first", "second"):
             is_chosen = part == "both" or (kind == 2) == (part == "second")
@@ -499,13 +596,50 @@ def faults_by_generation() -> Iterator[Made]:
                             f"{code} is in the data of the {which} generation, and the part '{part}' is read",
                             f"fault {code}" if is_chosen else "read", part, identified(0), active(0, data[0]), active(2, data[2]))
     for one, other in itertools.permutations(bad, 2):
-        first = one if one in ("C7", "C8") or other not in ("C7", "C8") else other
+        first = first_of(one, other)
         yield made_file("activity", first,
                         f"the first generation has {one} and the second {other}: C7 and C8 of both come before the records",
                         f"fault {first}", "both", identified(0), active(0, bad[one]), active(2, bad[other]))
 
 
+def second_kind_first() -> Iterator[Made]:
+    """Kind 02 before kind 00 in the file, and a fault in both."""
+    for one, other in (*itertools.pairwise(BAD), *itertools.pairwise(reversed(BAD)), ("C7", "C13"), ("C13", "C8")):
+        first = first_of(one, other)
+        yield made_file("in-file-order", first,
+                        f"kind 02 has {other} and comes first in the file, and kind 00 has {one}: C7 and C8 come first, and then kind 00",
+                        f"fault {first}", "both", identified(2), active(2, BAD[other]), identified(0), active(0, BAD[one]))
+    for one, other in (("C4", 0), ("C4", 2)):
+        short = block(IDENTIFICATION, other, HOLDER)
+        yield made_file("in-file-order", one, f"kind 02 comes first in the file, and the identification of kind {other:02} is too short",
+                        f"fault {one}", "both", *([short, identified(0)] if other else [identified(2), short]), active(0))
+
+
+def lengths_of_blocks() -> Iterator[Made]:
+    """Blocks without a value, and long ones."""
+    whole = [identified(0), active(0)]
+    for identifier, kind in ((ACTIVITY, 1), (IDENTIFICATION, 3), (0x0501, 0), (0, 0), (0xFFFF, 0xFF)):
+        yield made_file("block", FILE, f"the file's last block, {identifier:04x} {kind:02x}, has the length 0", "read", "both", *whole,
+                        block(identifier, kind, b""))
+    yield made_file("block", "C4", "the file's last block is an identification of kind 02 without a value", "fault C4", "both", *whole,
+                    block(IDENTIFICATION, 2, b""))
+    yield made_file("block", "C7", "the file's last block is activity data of kind 02 without a value", "fault C7", "both", *whole,
+                    block(ACTIVITY, 2, b""))
+    for bits in range(9, 16):
+        value = activity_data([FIRST, SECOND], 2**bits, 2**bits)
+        if bits == 15:
+            value = activity_data([FIRST, SECOND], 2**bits, 30_000)
+        yield made_file("block", FILE, f"the activity data have {len(value)} bytes", "read", "both", identified(0), active(0, value))
+        yield made_file("block", FILE, f"a block of {2**bits + 3} bytes that isn't read comes first", "read", "both",
+                        block(0x0501, 0, bytes(2**bits + 3)), *whole)
+        yield made_file("block", "C1", f"a block lacks its last byte, and begins at {2**bits + 5}", "fault C1", "both",
+                        block(0x0501, 0, bytes(2**bits)), active(0)[:-1])
+    long = [block(identifier, 0, bytes(65_535)) for identifier in (0x0501, 0x0502)]
+    yield made_file("block", FILE, "two blocks of 65,535 bytes that aren't read come first", "read", "both", *long, *whole)
+    yield made_file("block", "C1", "a block lacks its last byte, and begins at 131,080", "fault C1", "both", *long, active(0)[:-1])
+
+
 def card_files() -> list[Made]:
     """All cases of card files."""
-    makers = [generations, truncated, repeated, holders, faults_by_generation]
+    makers = [generations, truncated, repeated, holders, faults_by_generation, second_kind_first, lengths_of_blocks]
     return [one for maker in makers for one in maker()]

@@ -394,8 +394,23 @@ def six_days() -> Iterator[Made]:
                f"r360 {FIVE_DAYS}w60 r600 a781 r1440 w60 r600")
 
 
+def breaks_between() -> Iterator[Made]:
+    """B1 with shorter rests between a break of 15 minutes and one of 30."""
+    for count, length in ((2, 5), (3, 5), (4, 14)):
+        for last in (29, 30):
+            between = " ".join([f"r{length} d10"] * count)
+            what = (f"a break of 15 minutes, {count} of {length}, and then one of {last}, in 271 minutes of driving: those between "
+                    f"don't matter")
+            text = f"r2700 d60 r15 d10 {between} r{last} d{201 - 10 * count} r2700"
+            yield made("B1", "B1", what, judged(last < 30), text)
+    what = "a break of 15 minutes, three of 10 with other work before each, and then one of 30, in 271 minutes of driving"
+    yield made("B1", "B1", what, "no breach", "r2700 d60 r15 w5 r10 w5 r10 w5 r10 w5 r30 d211 r2700")
+    what = "breaks of 15, 20, 20 and 30 minutes are one complete break, and then come 271 minutes with one of 30"
+    yield made("B1", "B1", what, "breach", "r2700 d60 r15 d10 r20 d10 r20 d10 r30 d136 r30 d135 r2700")
+
+
 def timelines() -> list[Made]:
     """All cases of B1 to B8."""
-    makers = [breaks, short_rests, long_days, reduced_rests, split_rests, counted_rests, daily_driving, extended_days,
+    makers = [breaks, breaks_between, short_rests, long_days, reduced_rests, split_rests, counted_rests, daily_driving, extended_days,
               extended_days_at_week_ends, weekly_driving, two_weeks_driving, six_days]
     return [one for maker in makers for one in maker()]

@@ -3,8 +3,9 @@ docs/FORMATS.md, 'Requests and replies', says what a request is, and in which or
 import itertools
 from collections.abc import Iterable, Iterator
 
+from inputs import random_cards
 from lib.office_rows import (
-    ANNA, BERT, CARD, DAY, DAY_OFF, FREE_DAYS, HOLDER, HOURS_HEAD, LONG_NOTE, NO_AUTHOR, SATURDAY, SIGNED_HEAD, THREE_DAYS,
+    ANNA, BERT, CARD, DAY, DAY_OFF, FREE_DAYS, HOLDER, HOURS_HEAD, LONG_NOTE, NO_AUTHOR, NOTHING, SATURDAY, SIGNED_HEAD, THREE_DAYS,
 )
 from lib.server import DRIVER, OFFICE, OWN, asking, posting
 from lib.vector_sets import Made, pieces_of
@@ -256,8 +257,10 @@ def refusals() -> Iterator[Made]:
         (403, "a driver sends another one's card file (S5)", [ADD_ANNA, posting("/me/cards/both", DRIVER, OTHER_HOLDER)]),
         (409, "a card file contradicts entered hours (S6)", [ADD_ANNA, ADD_HOURS, posting("/me/cards/both", DRIVER, SATURDAY)]),
         (422, "a key that is too short (E9), before the driver is looked for", [ADD_ANNA, posting("/drivers/18/key", OFFICE, b"anna\n")]),
-        (400, "a key for a number with a zero in front, before what is wrong with the key", [ADD_ANNA, posting("/drivers/017/key", OFFICE, b"")]),
-        (409, "a driver's key becomes the office's (S2), before the driver is looked for", [ADD_ANNA, posting("/drivers/18/key", OFFICE, KEY)]),
+        (400, "a key for a number with a zero in front, before what is wrong with the key",
+         [ADD_ANNA, posting("/drivers/017/key", OFFICE, b"")]),
+        (409, "a driver's key becomes the office's (S2), before the driver is looked for",
+         [ADD_ANNA, posting("/drivers/18/key", OFFICE, KEY)]),
         (409, "a driver's key becomes another driver's (S2)", [ADD_ANNA, ADD_BERT, posting("/drivers/17/key", OFFICE, b"bert-key-1")]),
         (404, "a key for an unknown driver (S4)", [ADD_ANNA, posting("/drivers/18/key", OFFICE, b"anna-key-2")]),
         (404, "an unknown entry is withdrawn (S7)", [ADD_ANNA, asking("POST /drivers/17/withdraw/1", OFFICE)]),
@@ -501,9 +504,175 @@ def handovers() -> Iterator[Made]:
         yield made("handover", 404, f"the path '/me/{end}' isn't one", [ADD_ANNA, asking(f"GET /me/{end}", DRIVER)])
 
 
+def versions() -> Iterator[Made]:
+    """Other versions of HTTP, of three digits and more."""
+    for version in ("2.0", "3.0", "0.9", "1.11", "1.", "1.1 ", "01.1", "11.1"):
+        yield made("version", 400, f"the version HTTP/{version}", [*WITH_DAY, OWN.replace(b"HTTP/1.1", f"HTTP/{version}".encode())])
+
+
+def body_first() -> Iterator[Made]:
+    """What is wrong with the length of a body, beside what is wrong with an argument in the path."""
+    for path in ("/drivers/017/entries", "/drivers/0/key", "/drivers/1000000/name", "/cards/whole"):
+        yield made("body-first", 411, f"no length, beside the wrong argument in '{path}'", [ADD_ANNA, asking(f"POST {path}", OFFICE)])
+        yield made("body-first", 413, f"a length of 262,145, beside the wrong argument in '{path}'",
+                   [ADD_ANNA, asking(f"POST {path}", OFFICE, f"{LENGTH}262145")])
+        yield made("body-first", 400, f"a length of letters, beside the wrong argument in '{path}'",
+                   [ADD_ANNA, asking(f"POST {path}", OFFICE, f"{LENGTH}many")])
+        yield made("body-first", 400, f"a body that lacks a byte, beside the wrong argument in '{path}'",
+                   [ADD_ANNA, asking(f"POST {path}", OFFICE, f"{LENGTH}2", body=b"1")])
+    for path in ("/drivers/017/withdraw/1", "/drivers/17/base/2100-02-30", "/drivers/17/withdraw/2/1"):
+        yield made("body-first", 413, f"a length of 262,145, beside the wrong argument in '{path}', which has no body",
+                   [ADD_ANNA, asking(f"POST {path}", OFFICE, f"{LENGTH}262145")])
+
+
+def dates() -> Iterator[Made]:
+    """Dates that aren't in the calendar, of years that aren't read, and the first and the last months."""
+    for date, what in (("2100-02-30", "Z2"), ("2100-02-29", "Z2"), ("1999-02-29", "Z2"), ("2100-13-01", "Z2"), ("0000-00-00", "Z2"),
+                       ("2100-01-01", "Z3"), ("2000-01-02", "Z3"), ("1999-12-31", "Z3"), ("2100-3-1", "Z1"), ("2100-02-3", "Z1")):
+        yield made("date", 400, f"the base {date} ({what})", [ADD_ANNA, asking(f"POST /drivers/17/base/{date}", OFFICE)])
+        yield made("date", 400, f"the form as far as {date} ({what})", [ADD_ANNA, asking(f"GET /me/form/{date}", DRIVER)])
+    for minute in ("2100-02-30/12:00", "2100-01-01/24:00", "1999-12-31/23:60"):
+        yield made("date", 400, f"a forecast from {minute} on (Z2, before Z3)", [ADD_ANNA, asking(f"GET /me/ahead/{minute}", DRIVER)])
+    for month, what in (("2100-13", "Z2"), ("1999-00", "Z2"), ("2100-01", "Z3"), ("1999-12", "Z3")):
+        yield made("date", 400, f"the gaps of {month} ({what})", [ADD_ANNA, asking(f"GET /me/gaps/{month}", DRIVER)])
+    at_end = [ADD_ANNA, posting("/drivers/17/entries", OFFICE, HOURS_HEAD + b"2099-12-01 00:00,2099-12-31 23:59,rest\n")]
+    for month in ("2000-01", "2099-12"):
+        for what in ("gaps", "spans", "sheet"):
+            yield made("date", 200, f"'{what}' of {month}, the {'first' if month < '2001' else 'last'} month that is read",
+                       [*at_end, asking(f"GET /drivers/17/{what}/{month}", OFFICE)])
+    ends = {"2024-04": 30, "2024-06": 30, "2024-09": 30, "2024-11": 30, "2024-12": 31, "2023-02": 28, "2028-02": 29}
+    for month, last in ends.items():
+        yield made("date", 200, f"the gaps of {month}, which has {last} days", [ADD_ANNA, asking(f"GET /me/gaps/{month}", DRIVER)])
+        after = f"{month}-{last + 1}"
+        yield made("date", 400, f"the base {after} (Z2)", [ADD_ANNA, asking(f"POST /drivers/17/base/{after}", OFFICE)])
+
+
+def other_driver(number: str, holder: str, key: str, base: str) -> bytes:
+    """The request that registers a driver with these columns."""
+    return posting("/drivers", OFFICE, f"driver,holder,key,base,name\n{number},{holder},{key},{base},Carl\n".encode())
+
+
+TAKEN = {"S1": "the number", "S2": "the key", "S3": "the card", "S9": "a base that isn't a Monday"}
+
+
+def registrations() -> Iterator[Made]:
+    """Registrations with several faults, of which the least is reported."""
+    for count in (2, 3, 4):
+        for faults in itertools.combinations(TAKEN, count):
+            for taken_by, more in (("another driver", []), ("two other drivers", [ADD_BERT])):
+                number, key, holder = "17", "anna-key-1", HOLDER
+                if more:  # the last of these that is taken is Bert's
+                    key = "bert-key-1"
+                    holder = f"{HOLDER[:-1]}4"
+                request = other_driver(
+                    number if "S1" in faults else "19", holder if "S3" in faults else f"{HOLDER[:-1]}5",
+                    key if "S2" in faults else "carl-key-1", "2024-03-05" if "S9" in faults else "2024-03-04")
+                what = " and ".join(TAKEN[fault] for fault in faults)
+                status = 422 if faults[0] == "S9" else 409
+                yield made("registration", status, f"a driver has {what}, taken by {taken_by}: {faults[0]} comes first",
+                           [ADD_ANNA, *more, request])
+
+
+ENTER = "/drivers/17/entries"
+
+
+def hours_of(*rows: str) -> bytes:
+    """The request that enters rows of hours."""
+    return posting(ENTER, OFFICE, HOURS_HEAD + "".join(f"{row}\n" for row in rows).encode())
+
+
+def card_of(*records_of: tuple[int, list[int]]) -> bytes:
+    """A card file of Anna with records of days, each with its words, and one more without words."""
+    last, _ = records_of[-1]
+    records = [random_cards.record(day, words) for day, words in records_of]
+    value = random_cards.activity_data([*records, random_cards.record(last + 1, [])], 0, 0)
+    return bytes.fromhex(CARD) + random_cards.block(random_cards.ACTIVITY, 0, value)
+
+
+MONDAY = 19_786  # 2024-03-04
+CREW = random_cards.word(0, 1, 3, 480)
+
+
+def held_minutes() -> Iterator[Made]:
+    """What contradicts, and what is added or repeated."""
+    rest = hours_of("2024-03-04 00:00,2024-03-05 00:00,rest")
+    for row, minute in (("2024-03-04 06:00,2024-03-04 07:00,work", "06:00"), ("2024-03-04 23:59,2024-03-05 07:00,drive", "23:59"),
+                        ("2024-03-03 12:00,2024-03-04 00:01,available", "00:00")):
+        yield made("held", 409, f"entered hours contradict entered hours at {minute} (S6)", [ADD_ANNA, rest, hours_of(row)])
+    yield made("held", 201, "entered hours touch entered hours", [ADD_ANNA, rest, hours_of("2024-03-05 00:00,2024-03-05 07:00,drive")])
+    yield made("held", 201, "the same hours are entered twice", [ADD_ANNA, rest, rest])
+    yield made("held", 409, "entered hours contradict a card file (S6)", [*WITH_DAY, hours_of("2024-03-04 07:00,2024-03-04 09:00,rest")])
+    yield made("held", 409, "the second row contradicts entered hours (S6), and nothing of the first is entered",
+               [ADD_ANNA, rest, hours_of("2024-03-03 00:00,2024-03-03 01:00,work", "2024-03-04 00:00,2024-03-04 01:00,work")])
+    yield made("held", 200, "after a refusal nothing of its hours is held",
+               [ADD_ANNA, rest, hours_of("2024-03-03 00:00,2024-03-03 01:00,work", "2024-03-04 00:00,2024-03-04 01:00,work"),
+                asking("GET /drivers/17/spans/2024-03", OFFICE)])
+    day = [random_cards.word(0, 0, 0, 0)]
+    whole = posting("/cards/both", OFFICE, card_of((MONDAY, day)))
+    yield made("held", 201, "a card file of which all minutes were entered by hand, but none downloaded, is added", [ADD_ANNA, rest, whole])
+    yield made("held", 201, "a card file of which half the minutes were downloaded, and the others entered by hand, is added",
+               [ADD_ANNA, hours_of("2024-03-05 00:00,2024-03-06 00:00,rest"), whole,
+                posting("/cards/both", OFFICE, card_of((MONDAY, day), (MONDAY + 1, day)))])
+    part = posting("/cards/both", OFFICE, card_of((MONDAY, [random_cards.word(0, 0, 0, 300)])))
+    yield made("held", 200, "another card file, all of whose minutes were downloaded, is repeated", [ADD_ANNA, whole, part])
+    yield made("held", 200, "another card file, whose minutes two others gave together, is repeated",
+               [ADD_ANNA, whole, posting("/cards/both", OFFICE, card_of((MONDAY + 1, day))),
+                posting("/me/cards/first", DRIVER, card_of((MONDAY, day), (MONDAY + 1, day)))])
+    yield made("held", 201, "another card file with one minute more is added",
+               [ADD_ANNA, part, posting("/cards/both", OFFICE, card_of((MONDAY, [random_cards.word(0, 0, 0, 299)])))])
+    empty = posting("/cards/both", OFFICE, NOTHING)
+    yield made("held", 200, "a card file without records is repeated, though it is the first", [ADD_ANNA, empty])
+    yield made("held", 200, "a card file without records isn't listed", [ADD_ANNA, empty, asking("GET /me/files", DRIVER)])
+    yield made("held", 200, "a card file that is repeated isn't listed", [ADD_ANNA, whole, part, asking("GET /me/files", DRIVER)])
+
+
+OWING = ["2024-03-04 00:00,2024-03-04 06:00,rest", "2024-03-04 06:00,2024-03-04 07:00,work", "2024-03-04 07:00,2024-03-05 13:00,rest"]
+
+
+def reports() -> Iterator[Made]:
+    """What is printed of debts, of months, and of entries."""
+    for past, what in (("2024-04-01 00:00", "is the horizon: it is late"),
+                       ("2024-03-31 23:59", "is a minute after the horizon: it is open"),
+                       ("2024-04-01 00:01", "is a minute before the horizon: it is late")):
+        owing = [ADD_ANNA, hours_of(*OWING, f"2024-03-05 13:00,{past},work")]
+        for path in ("owed", "debts", "breaches"):
+            yield made("report", 200, f"'{path}' of a debt whose deadline {what}", [*owing, asking(f"GET /me/{path}", DRIVER)])
+    paid = hours_of(*OWING, "2024-03-05 13:00,2024-03-12 00:00,work", "2024-03-12 00:00,2024-03-14 21:00,rest",
+                    "2024-03-14 21:00,2024-03-14 22:00,work")
+    yield made("report", 200, "'owed' of a debt that is paid", [ADD_ANNA, paid, asking("GET /me/owed", DRIVER)])
+    over = [ADD_ANNA, hours_of("2024-03-04 00:00,2024-03-31 00:00,rest", "2024-03-31 00:00,2024-03-31 18:00,work",
+                               "2024-03-31 18:00,2024-04-01 12:00,drive", "2024-04-01 12:00,2024-04-02 12:00,rest")]
+    at_midnight = [ADD_ANNA, hours_of("2024-03-04 00:00,2024-03-31 19:30,rest", "2024-03-31 19:30,2024-04-01 02:00,drive",
+                                      "2024-04-01 02:00,2024-04-02 12:00,rest")]
+    for month in ("2024-03", "2024-04", "2024-05"):
+        for what in ("sheet", "why"):
+            told = f"'{what}' of {month}, where a breach stands in the month of its moment, and one of these is in March"
+            yield made("report", 200, told, [*over, asking(f"GET /drivers/17/{what}/{month}", OFFICE)])
+        yield made("report", 200, f"the sheet of {month}, where a breach has its moment on 1 April at 00:00",
+                   [*at_midnight, asking(f"GET /drivers/17/sheet/{month}", OFFICE)])
+    crew = [ADD_ANNA, posting("/cards/both", OFFICE, card_of((MONDAY, [random_cards.word(0, 1, kind, 300 * kind) for kind in range(4)])))]
+    for what in ("sheet/2024-03", "spans/2024-03", "breaches", "stretches"):
+        yield made("report", 200, f"'{what}' of a day with a second driver", [*crew, asking(f"GET /drivers/17/{what}", OFFICE)])
+    yield made("report", 200, "'sheet' of a day whose driving has a second driver from 08:00 on",
+               [ADD_ANNA, posting("/cards/both", OFFICE, card_of((MONDAY, [random_cards.word(0, 0, 3, 0), CREW]))),
+                asking("GET /drivers/17/sheet/2024-03", OFFICE)])
+    months = [ADD_ANNA, hours_of("2024-02-28 12:00,2024-04-02 00:00,rest")]
+    for month in ("2024-01", "2024-02", "2024-03", "2024-04", "2024-05"):
+        for what in ("spans", "gaps"):
+            yield made("report", 200, f"'{what}' of {month}, cut at the month's ends, of rest from February to April",
+                       [*months, asking(f"GET /me/{what}/{month}", DRIVER)])
+    two = [ADD_ANNA, hours_of("2024-03-04 00:00,2024-03-05 00:00,rest", "2024-03-05 00:00,2024-03-06 00:00,rest")]
+    for number in (1, 2):
+        gone = asking(f"POST /drivers/17/withdraw/{number}", OFFICE, f"{LENGTH}0")
+        for what in ("entries", "spans/2024-03", "gaps/2024-03"):
+            yield made("report", 200, f"'{what}' of two entries, of which number {number} was withdrawn",
+                       [*two, gone, asking(f"GET /drivers/17/{what}", OFFICE)])
+
+
 def requests() -> list[Made]:
     """All cases of requests."""
     makers = (
-        heads, limits, keys, paths, bodies, arguments, refusals, done, single_bytes, forecasts, of_all_drivers, ranges, names, forms, handovers,
+        heads, limits, keys, paths, bodies, arguments, refusals, done, single_bytes, forecasts, of_all_drivers, ranges, names, forms,
+        handovers, versions, body_first, dates, registrations, held_minutes, reports,
     )
     return [one for maker in makers for one in maker()]

@@ -343,10 +343,41 @@ def long_rests() -> Iterator[Made]:
         yield made("long", "B9", what, judged(bool(found)), laid(rests, horizon))
 
 
+def equal_rests() -> Iterator[Made]:
+    """Debts where two rests of a week are equally long: the earlier one is its main rest."""
+    for minutes in (1619, 1620):
+        text = laid([(DAY, minutes), (FRIDAY, minutes)], 2 * WEEK, NO_ROOM)
+        what = (f"a week has two rests of {minutes} minutes: it owes {2700 - minutes} for the earlier one, and the later one keeps 540 and "
+                f"has room for {minutes - 540}")
+        yield made("equal", "B10", what, "paid" if minutes - 540 >= 2700 - minutes else "not paid", text)
+    rests = [(FRIDAY, 2400), (WEEK + DAY, 2700), (WEEK + FRIDAY, 2700)]
+    what = "a week owes 300 minutes, and the next has two rests of 2,700, of which the earlier keeps 2,700 and the later 540"
+    yield made("equal", "B10", what, "paid", laid(rests, 2 * WEEK + DAY, NO_ROOM))
+    rests = [(DAY, 1800), (3 * DAY, 1800), (5 * DAY, 1800)]
+    what = "a week has three rests of 1,800 minutes: the first is its main rest, and the second pays"
+    yield made("equal", "B10", what, "paid", laid(rests, 2 * WEEK, NO_ROOM))
+    for known in (1799, 1800, 1801):
+        text = laid([(FRIDAY, 1440), (WEEK + DAY, 1800)], WEEK + FRIDAY, SHORT) + f" r{known}"
+        what = (f"a week owes 1,260 minutes, and of two rests in the next week the earlier has 1,800 minutes and of the last {known} are "
+                f"held: the longer one keeps 2,700, and of equal ones the earlier")
+        yield made("equal", "B10", what, "paid" if known >= 1800 else "not paid", text)
+
+
+def weeks_apart() -> Iterator[Made]:
+    """Debts of weeks some way apart: what a rest pays of the older one is no room for the newer one."""
+    for apart in (1, 2, 3):
+        main, payer = (WEEK * apart + DAY, 2000), (WEEK * apart + FRIDAY, 540 + 1000 + 1)
+        others = [(WEEK * week + DAY, 2700) for week in range(1, apart)]
+        text = laid([(DAY, 1700), *others, main, payer], WEEK * (apart + 1) + DAY, NO_ROOM)
+        what = (f"a week owes 1,000 minutes, and a rest in week {apart} after it pays them, and has room for one of the 700 that its own "
+                f"week owes")
+        yield made("apart", "B10", what, "paid", text)
+
+
 def timelines() -> list[Made]:
     """All cases of B9 and B10."""
     makers = [weekly_rests, rests_at_limits, restarts, main_rests, last_runs, payers, deadlines, several_debts, owed_and_paid,
-              long_rests]
+              long_rests, equal_rests, weeks_apart]
     return [one for maker in makers for one in maker()]
 
 

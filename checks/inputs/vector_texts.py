@@ -283,7 +283,87 @@ def driver_rows() -> Iterator[Made]:
     yield driver("E9", "row 2 is wrong, and there is a row 3: E9 comes before E2 of row 3", "fault E9", of_anna(0, "0", row))
 
 
+def last_fields() -> Iterator[Made]:
+    """Texts that end in two double quotes."""
+    for text, what in ((HEAD + b'""', "under a head alone"), (HEAD + REST + b'""', "after a row"),
+                       (HEAD + REST + b'\r\n""', "after an empty line")):
+        yield hours("E2", f'a text ends in two double quotes, {what}: a record of one empty field', "fault E2", text)
+    yield hours("E6", "a text ends in two double quotes in the place of the activity", "fault E6", HEAD + REST.replace(b"rest\n", b'""'))
+    yield hours("CSV", "a text ends in two double quotes in the place of the note", "read", SIGNED + REST[:-1] + b',Eva,""')
+    yield hours("E2", "a text ends in two double quotes and a comma", "fault E2", HEAD + REST[:-1] + b',""')
+    yield driver("E2", "a text ends in two double quotes in the place of row 2", "fault E2", COLUMNS + b'""')
+    yield driver("E2", "a text ends in two double quotes in the place of row 3", "fault E2", COLUMNS + ",".join(ANNA).encode() + b'\n""')
+
+
+LONG_MONTHS = (1, 3, 5, 7, 8, 10, 12)
+
+
+def calendar() -> Iterator[Made]:
+    """The last days of each month, and leap days."""
+    for month in range(1, 13):
+        last = 31 if month in LONG_MONTHS else 30 if month != 2 else 28
+        yield hours("CSV", f"the last minute of month {month} of 2023 is entered", "read",
+                    HEAD + f"2023-{month:02}-{last} 23:59,2024-01-01 00:00,rest\n".encode())
+        for day in range(last + 1, 33):
+            yield hours("E3", f"a start with day {day} of month {month} of 2023", "fault E3",
+                        HEAD + f"2023-{month:02}-{day} 00:00,2024-01-01 00:00,rest\n".encode())
+    for year in (2004, 2028, 2096):
+        yield hours("CSV", f"29 February of {year}, a leap year, is entered", "read",
+                    HEAD + f"{year}-02-29 00:00,{year}-03-01 00:00,rest\n".encode())
+        yield driver("S9", f"the base is 29 February of {year}, a leap year, and isn't a Monday", "fault S9", of_anna(3, f"{year}-02-29"))
+    for year in (2026, 2027, 2098):
+        yield hours("E3", f"29 February of {year}, which isn't a leap year", "fault E3",
+                    HEAD + f"{year}-02-29 00:00,{year}-03-01 00:00,rest\n".encode())
+    yield driver("CSV", "the base is 29 February of 2044, a Monday", "read", of_anna(3, "2044-02-29"))
+    for date in ("2024-04-31", "2024-06-31", "2024-09-31", "2024-11-31", "2025-02-29"):
+        yield driver("E9", f"the base {date} isn't in the calendar", "fault E9", of_anna(3, date))
+
+
+NO_TEXTS = [
+    (b"\xed\xa0\x80", "a surrogate, ed a0 80"), (b"\xed\xbf\xbf", "a surrogate, ed bf bf"), (b"\xc0\x80", "two bytes for U+0000"),
+    (b"\xe0\x80\xaf", "three bytes for a slash"), (b"\xf4\x90\x80\x80", "four bytes beyond U+10FFFF"),
+    (b"\xf8\x88\x80\x80\x80", "five bytes"), (b"\xe2\x82", "two bytes of three"), (b"\xf0\x9f\x9a", "three bytes of four"),
+]
+TEXTS = [
+    ("\ud7ff", "U+D7FF"), ("\ue000", "U+E000"), ("\U0010ffff", "U+10FFFF"), ("\u0800", "U+0800"), ("\u00a0", "U+00A0"),
+    ("\ufeff", "U+FEFF"),
+]
+
+
+def letters() -> Iterator[Made]:
+    """Blanks around texts, and letters at the limits of UTF-8."""
+    def signed(author: bytes, note: bytes) -> bytes:
+        return SIGNED + REST[:-1] + b"," + author + b"," + note + b"\n"
+
+    for author, note, what in (
+        (b"Eva", b" ill ", "around a note"), (b" Eva ", b"ill", "around an author"), (b"Eva", b"  ", "alone in a note"),
+        (b'" Eva "', b'" ill "', "around both, in quotes"), (b"Eva", b" ill", "before a note"), (b"Eva", b"ill ", "after one"),
+    ):
+        yield hours("CSV", f"blanks {what} are a part of it", "read", signed(author, note))
+    yield driver("CSV", "blanks around a name are a part of it", "read", of_anna(4, "  Anna Berg "))
+    for wrong, what in NO_TEXTS:
+        yield hours("E10", f"a note with {what}, isn't UTF-8", "fault E10", signed(b"Eva", b"a" + wrong))
+        yield driver("E9", f"a name with {what}, isn't UTF-8", "fault E9", of_anna(4, b"a" + wrong))
+    for text, what in TEXTS:
+        yield hours("CSV", f"a note of {what} is one", "read", signed(b"Eva", text.encode()))
+    for byte in (b"\x1f", b"\x7f"):
+        yield hours("E10", f"an author that ends in byte {byte[0]}", "fault E10", signed(b"Eva" + byte, b""))
+
+
+def key_letters() -> Iterator[Made]:
+    """The first and the last letters and digits that a key may have, and those beside them."""
+    for letter in "AZaz09-":
+        yield driver("CSV", f"a key with '{letter}' is within its limits", "read", of_anna(2, f"anna{letter}key1"))
+    for letter in "@[`{/:._ ":
+        yield driver("E9", f"a key with '{letter}' is out of the limits of the column key", "fault E9", of_anna(2, f"anna{letter}key1"))
+
+
+# Cases of both kinds, by the names of their generators.
+LATER = {"last-field": last_fields, "calendar": calendar, "letters": letters, "key": key_letters}
+
+
 def texts() -> list[Made]:
     """All cases of CSV."""
     makers = [heads, records, times, orders, activities, authors, first_faults, drivers, driver_rows]
-    return [one for maker in makers for one in maker()]
+    later = [one._replace(generator=name) for name, maker in LATER.items() for one in maker()]
+    return [one for maker in makers for one in maker()] + later

@@ -159,16 +159,17 @@ def at_once() -> Iterator[Made]:
 
 def quiet_year() -> str:
     """A year of short days and long weekends, and a horizon at its end."""
-    return "r360 " + ("w30 d200 r45 d100 r1065 " * 4 + "w30 d200 r45 d100 r3945 ") * 52
+    return "r360 " + ("d200 r45 d100 r1095 " * 4 + "d200 r45 d100 r3975 ") * 52
 
 
-WORKING_DAYS = "w30 d240 r45 d240 r15 w10 r860 " * 2 + "w30 d270 r45 d270 r45 d70 r710 " * 2 + "w600 "
+LONG_WEEKS = 40
+WORKING_DAYS = "w560 r880 " * 2 + "d270 r45 d270 r45 d70 r740 " * 2 + "w600 "
 WEEKENDS = {0: "r1680 w1 r1299 w1 r739 ", 2: "r3720 "}  # by the week modulo 4: one that owes 1,020 minutes, and one that pays them
 
 
 def long_year() -> str:
-    """A year in which each week has two long days, and each fourth a short weekend, which the one after the next makes good."""
-    return "r360 " + "".join(WORKING_DAYS + WEEKENDS.get(week % 4, "r2700 w1 r1019 ") for week in range(52))
+    """Weeks with two long days each, of which each fourth has a short weekend, which the one after the next makes good."""
+    return "r360 " + "".join(WORKING_DAYS + WEEKENDS.get(week % 4, "r2700 w1 r1019 ") for week in range(LONG_WEEKS))
 
 
 def chained_year() -> str:
@@ -182,11 +183,11 @@ def chained_year() -> str:
 
 
 def years() -> Iterator[Made]:
-    """Timelines of 52 weeks, the one that is examined fastest first."""
+    """Timelines of 40 and 52 weeks, the one that is examined fastest first."""
     yield made("year", "B9", "a year of 52 weeks whose rests lie over the ends of weeks, and some of them are missing", "breach",
                chained_year())
     yield made("year", "B9", "a quiet year of 52 weeks, each with two days off", "no breach", quiet_year())
-    yield made("year", "B4", "a year of 52 weeks with two days of more than ten hours of driving in each", "breach", long_year())
+    yield made("year", "B4", f"{LONG_WEEKS} weeks with two days of more than ten hours of driving in each", "breach", long_year())
 
 
 def timelines() -> list[Made]:

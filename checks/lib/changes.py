@@ -203,6 +203,11 @@ def module_with(module: types.ModuleType, pairs: Collection[tuple[str, str]]) ->
     return changed
 
 
+def module_with_all(module: types.ModuleType, changes: Collection[Collection[tuple[str, str]]]) -> types.ModuleType:
+    """The same, but for the texts of several changes. Where one changes what another one needs, it is a ValueError."""
+    return module_with(module, [pair for pairs in changes for pair in pairs])
+
+
 def plant(module: types.ModuleType, pairs: Collection[tuple[str, str]]) -> None:
     """Changes a module itself: each function, class or name whose source is another one."""
     before = {ast.dump(top) for top in ast.parse(source_with(module, [])).body}

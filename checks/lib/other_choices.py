@@ -2,6 +2,7 @@
 otherwise: a slow program with a few texts of its source replaced. A case that such a reading answers differently has the choice's tag."""
 import functools
 from collections import namedtuple
+from collections.abc import Collection
 from types import SimpleNamespace
 
 from lib import changes, vector_changes, vector_sets
@@ -141,7 +142,7 @@ CHOICES = [
          "        horizon = report[0]\n        monday_after"),
     ]),
     # The newest record's last word holds to midnight.
-    Choice("last-word", "reader", [("if begun and not (place == newest and begun[-1] == len(words) - 1):", "if begun:")]),
+    Choice("last-word", "reader", [("if begun >= 0 and not (place == newest and begun == len(words) - 1):", "if begun >= 0:")]),
     # Words out of order are read as they come.
     Choice("word-order", "reader", [("if i and word % 2048 < words[i - 1] % 2048:", "if False:")]),
     # All days are read that a date can name.
@@ -153,11 +154,18 @@ CHOICES = [
 ]
 
 
+def choice_of(tag: str) -> Choice:
+    """The choice with a tag."""
+    return next(choice for choice in CHOICES if choice.tag == tag)
+
+
 @functools.cache
-def reading_of(tag: str) -> SimpleNamespace:
-    """The slow programs, one of which chooses otherwise."""
-    choice = next(choice for choice in CHOICES if choice.tag == tag)
-    return vector_sets.with_module(choice.program, changes.module_with(getattr(vector_sets.SLOW, choice.program), choice.pairs))
+def reading_of(*tags: str) -> SimpleNamespace:
+    """The slow programs, one of which makes these choices otherwise, the first of them first. A ValueError says that their texts don't fit
+    together."""
+    program = choice_of(tags[0]).program
+    module = getattr(vector_sets.SLOW, program)
+    return vector_sets.with_module(program, changes.module_with_all(module, [choice_of(tag).pairs for tag in tags]))
 
 
 def tags_for(name: str) -> list[str]:
@@ -168,6 +176,39 @@ def tags_for(name: str) -> list[str]:
 WHOLE = {"before-base"}  # the choices about what is examined at all
 
 
-def tags_of(known: vector_changes.Known) -> list[str]:
-    """The tags of a case: those of the choices with which it would be answered differently."""
-    return [tag for tag in tags_for(known.name) if known.notices(reading_of(tag), tag in WHOLE)]
+def answer_otherwise(known: vector_changes.Known, *tags: str) -> vector_sets.Answer:
+    """The answer to a case where some choices are made otherwise."""
+    slow = reading_of(*tags)
+    if known.name != "timelines" or WHOLE & {*tags}:
+        return vector_sets.ANSWERS[known.name](slow, known.case["input"])
+    breaches, debts = slow.rules.examine(*known.examined)
+    return {**known.case["expected"], "breaches": vector_sets.breaches_answer(breaches), "debts": vector_sets.debts_answer(debts)}
+
+
+def differs_by(known: vector_changes.Known, *tags: str) -> bool:
+    """Whether choices, made otherwise together, change the answer to a case."""
+    return bool(answer_otherwise(known, *tags) != known.case["expected"])
+
+
+# Cases that two choices change only together, with these choices.
+TOGETHER = {
+    "timelines/at-once-038": [
+        ("utc", "one-debt-a-week"), ("availability", "nine-hours-end-a-day"), ("one-debt-a-week", "owes-after-last-rest"),
+    ],
+}
+
+
+def otherwise_of(known: vector_changes.Known, tried: Collection[str] | None = None) -> dict[str, vector_sets.Answer]:
+    """By the tags of a case the answer of a reading that chooses otherwise: those of the choices with which it differs, and those of two
+    with which it differs only together. All choices are tried, or only some."""
+    answers = {tag: answer_otherwise(known, tag) for tag in tags_for(known.name) if tried is None or tag in tried}
+    together = {tag for pair in TOGETHER.get(known.id, []) for tag in pair}
+    return {tag: answer for tag, answer in answers.items() if answer != known.case["expected"] or tag in together}
+
+
+def patch_of(old: vector_sets.Answer, new: vector_sets.Answer) -> vector_sets.Answer:
+    """What of an answer is different, as a JSON merge patch (RFC 7396)."""
+    if not isinstance(old, dict) or not isinstance(new, dict):
+        return new
+    changed = {key: patch_of(old[key], value) if key in old else value for key, value in new.items() if key not in old or old[key] != value}
+    return {**changed, **{key: None for key in old if key not in new}}

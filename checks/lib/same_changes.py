@@ -62,6 +62,8 @@ CSV = {
 
 # Of slow_reader.py.
 READER = {
+    # No word has a number below 0.
+    ("pairs_of_value", "-1", "-2"),
     # A length of 11 is odd.
     ("record_of", "length < 12", "length < 11"),
     # Of an even number the half of it and one more is the same, rounded down.

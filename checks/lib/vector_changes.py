@@ -2,11 +2,11 @@
 ends in a fault, or takes too long."""
 import functools
 import time
-from collections.abc import Callable, Iterable, Iterator
+from collections.abc import Callable, Container, Iterable, Iterator, Mapping
 from types import ModuleType, SimpleNamespace
 from typing import Any
 
-from lib import changes, same_changes, vector_sets
+from lib import changes, same_changes, vector_sets, written_changes
 from lib.changes import Change
 from slow import slow_ahead, slow_csv, slow_office, slow_reader, slow_rules, slow_server
 
@@ -115,6 +115,11 @@ class Changed:
         """The slow programs, one of which is changed."""
         return vector_sets.with_module(self.program, self.make())
 
+    @property
+    def key(self) -> tuple[Any, ...]:
+        """What shows it in its line."""
+        return f"slow_{self.program}", *self.change, self.turn
+
     def line(self, cases: Iterable[str]) -> dict[str, Any]:
         """The line of the change, with the cases that notice it."""
         function, old, new = self.change
@@ -145,6 +150,36 @@ def changes_of(program: str) -> Iterator[Changed]:
             turns[change] = turn + 1
             if not same_changes.is_same(program, change, turn):
                 yield Changed(program, change, turn, make)
+
+
+class WrittenChange(Changed):
+    """A change that is written down: only the cases of some generators notice it."""
+
+    def __init__(self, written: written_changes.Written) -> None:
+        change = Change(written_changes.function_of(written), written.old, written.new)
+        super().__init__(written.program, change, 0, lambda: changes.module_with(written_changes.module_named(written.program), []))
+        self.written = written
+        self.is_whole = True
+
+    @functools.cached_property
+    def slow(self) -> SimpleNamespace:
+        """The slow programs, one of which is changed."""
+        return written_changes.slow_with(self.written)
+
+    def noticing(self, cases: Iterable[tuple[str, vector_sets.Case]]) -> list[str]:
+        """All cases that notice it, of those that are given with their sets; of timelines only those of its rules are asked."""
+        rules = rules_of(self.change.function) if self.program == "rules" else []
+        asked = [Known(name, case) for name, case in cases if name in self.written.sets and (not rules or case["rule"] in rules)]
+        return [one.id for one in asked if self.is_noticed_by(one)]
+
+    def is_expected(self, one: str) -> bool:
+        """Whether a case, by its set and id, is of a generator whose cases may notice it."""
+        return one.split("/")[1].rsplit("-", 1)[0] in self.written.generators
+
+
+def written() -> list[WrittenChange]:
+    """The changes that are written down."""
+    return [WrittenChange(one) for one in written_changes.WRITTEN]
 
 
 # To find the cases
@@ -189,16 +224,18 @@ def preferred(one: Known, made: list[Changed]) -> list[Changed]:
                   key=lambda change: functions.index(change.change.function) if functions else 0)
 
 
-def matched(program: str, known: list[Known], say: Callable[[str], None]) -> tuple[list[dict[str, Any]], list[str], list[str]]:
+def matched(program: str, known: list[Known], before: Mapping[tuple[Any, ...], list[str]], say: Callable[[str], None],
+            needed: Container[str]) -> tuple[list[dict[str, Any]], list[str], list[str]]:
     """The lines of a program's changes, with the cases that notice each; the changes that no case notices; and the cases that notice
-    none."""
-    made = [change for change in changes_of(program) if can_be_made(change)]
-    found = {change.name: noticing(change, known) for change in made}
+    none. Given are the cases that are known to notice each change, and those that are needed for a change that is written down."""
+    cases = {one.id: one for one in known}
+    made = [change for change in changes_of(program) if before.get(change.key) or can_be_made(change)]
+    found = {change.name: [cases[one] for one in before.get(change.key, [])] or noticing(change, known) for change in made}
     say(f"{program}: {len(made)} changes are tried")
     listed = {one.id for cases in found.values() for one in cases}
     lost = []
     for one in known:
-        if one.id not in listed:
+        if one.id not in listed and one.id not in needed:
             others = [change for change in preferred(one, made) if not change.is_endless]
             change = next((change for change in others if change.is_noticed_by(one) and not change.is_endless), None)
             if change:

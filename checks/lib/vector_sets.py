@@ -17,7 +17,10 @@ from lib import files
 from slow import slow_ahead, slow_csv, slow_office, slow_reader, slow_rules, slow_server
 
 FOLDER = os.path.join(files.TOP, "vectors")
-NAMES = ["words", "chains", "files", "timelines", "stretches", "ahead", "csv", "http"]
+# By the part of the folder: its sets. What isn't in the law, or in the Annex, is this product's own.
+PARTS = {"law": ["words", "chains", "files", "timelines", "stretches"], "product": ["ahead", "csv", "http"]}
+PART_OF = {name: part for part, names in PARTS.items() for name in names}
+NAMES = [*PART_OF]
 KEYS = ["id", "why", "rule", "tags", "input", "expected"]
 
 # A case as a generator makes it: the name of the generator, a sentence that says what the case is for, the rule or fault that it is about,
@@ -64,10 +67,27 @@ def pieces_of(given: bytes) -> list[Any]:
     return pieces
 
 
+def texts_of(pieces: Iterable[Any]) -> str:
+    """The text of a list of texts and of repeated ones."""
+    return "".join(piece if isinstance(piece, str) else piece["byte"] * piece["times"] for piece in pieces)
+
+
 def bytes_of(pieces: Iterable[Any]) -> bytes:
     """The bytes that such a list gives."""
-    texts = [piece if isinstance(piece, str) else piece["byte"] * piece["times"] for piece in pieces]
-    return "".join(texts).encode("latin-1")
+    return texts_of(pieces).encode("latin-1")
+
+
+def digits_of(given: bytes) -> list[Any]:
+    """Bytes as JSON in hexadecimal digits, and for many equal bytes in a row an object."""
+    return [
+        piece.encode("latin-1").hex() if isinstance(piece, str) else {**piece, "byte": piece["byte"].encode("latin-1").hex()}
+        for piece in pieces_of(given)
+    ]
+
+
+def bytes_of_digits(pieces: Iterable[Any]) -> bytes:
+    """The bytes that such a list gives."""
+    return bytes.fromhex(texts_of(pieces))
 
 
 # Answers about cards
@@ -114,7 +134,7 @@ def spans_answer(reader: ModuleType, pairs: Callable[[], Iterable[Any]]) -> Answ
 
 def answer_value(slow: SimpleNamespace, given: Given) -> Answer:
     """What a value of activity data gives."""
-    value = bytes.fromhex(given["value"])
+    value = bytes_of_digits(given["value"])
     return spans_answer(slow.reader, lambda: slow.reader.pairs_of_value(value))
 
 
@@ -126,7 +146,7 @@ def holder_answer(reader: ModuleType, file: bytes) -> Answer:
 
 def answer_file(slow: SimpleNamespace, given: Given) -> Answer:
     """The holder of a file, and what a part of it gives."""
-    file = bytes.fromhex(given["file"])
+    file = bytes_of_digits(given["file"])
     try:
         held = holder_answer(slow.reader, file)
     except Exception as fault:
@@ -262,7 +282,7 @@ def answer_csv(slow: SimpleNamespace, given: Given) -> Answer:
 
 def answer_requests(slow: SimpleNamespace, given: Given) -> Answer:
     """The replies to requests, one after the other, over an archive of no drivers. Each has one right reply."""
-    server = slow.server.Server(slow_office.Office(), OFFICE_KEY)
+    server = slow.server.Server(slow.office.Office(), OFFICE_KEY)
     replies = []
     for pieces in given["requests"]:
         found = server.replies(bytes_of(pieces))
@@ -341,7 +361,7 @@ def line_of(case: Case) -> str:
 
 def path_of(name: str) -> str:
     """The file of a set."""
-    return os.path.join(FOLDER, f"{name}.jsonl")
+    return os.path.join(FOLDER, PART_OF[name], f"{name}.jsonl")
 
 
 def lines_in(path: str) -> list[str]:

@@ -83,7 +83,7 @@ WRONG = [
     card("C12", "if word % 2048 >= 1440:", "if word % 2048 > 1440:"),
     card("C13", "if i and word % 2048 < words[i - 1] % 2048:", "if i > 1 and word % 2048 < words[i - 1] % 2048:"),
     card("C14", "        if minute == following:\n", "        if minute == following and minute % 1440:\n"),
-    Wrong("the last word", "ActivityChangeInfo: ", "reader", [("begun[-1] == len(words) - 1):", "begun[-1] == len(words)):")]),
+    Wrong("the last word", "ActivityChangeInfo: ", "reader", [("begun == len(words) - 1):", "begun == len(words)):")]),
     Wrong("the wrap", "cyclic buffer: ", "reader", [("buffer[(place + 1) % n]", "buffer[min(place + 1, n - 1)]")]),
     Wrong("both generations", "card file: ", "reader", [('"both": [first, second]', '"both": [second, first][:1]')]),
     text("E1", "if not rows or rows[0] not in heads:", "if not rows or rows[0][:3] not in [head[:3] for head in heads]:"),

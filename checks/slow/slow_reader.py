@@ -75,10 +75,12 @@ def pairs_of_value(value: bytes) -> set[Pair]:
     place, taken = oldest, 0
     while True:
         length, day, words = record_of(buffer, place, taken)
+        last_of = {word % 2048: i for i, word in enumerate(words)}
+        begun = -1  # the last word that holds from the minute or earlier
         for minute in range(1440):
-            begun = [i for i, word in enumerate(words) if word % 2048 <= minute]
-            if begun and not (place == newest and begun[-1] == len(words) - 1):
-                mark = mark_of(words[begun[-1]])
+            begun = max(begun, last_of.get(minute, -1))
+            if begun >= 0 and not (place == newest and begun == len(words) - 1):
+                mark = mark_of(words[begun])
                 if mark:
                     pairs.add((1440 * day + minute, mark))
         if place == newest:
