@@ -778,12 +778,14 @@ def of_servers(program):
 
 
 def of_sentences():
-    """The comparison of the sentences for a person in the code with those of docs/FORMATS.md."""
+    """The comparisons of the sentences for a person in the code with those of docs/FORMATS.md."""
     sources = [os.path.join(TOP, "crates", *path) for path in (("tacho", "src", "advice.rt"), ("tacho_disk", "src", "cause.rt"))]
     texts = {text for path in sources for text in re.findall(r'"((?:[^"\\]|\\.)*)"', read(path).decode())}
     found = {text for text in texts if " " in text and not re.search(r"[\\{}]", text)}
     yield "the sentences in docs/FORMATS.md", sorted(advice.all_sentences()), sorted(found)
-    yield "the sentence on short keys", advice.SHORT_KEY in " ".join(read(os.path.join(TOP, "docs", "FORMATS.md")).decode().split()), True
+    formats = " ".join(read(os.path.join(TOP, "docs", "FORMATS.md")).decode().split())
+    for name, text in (("short keys", advice.SHORT_KEY), ("the office's key", advice.OFFICE_KEY)):
+        yield f"the sentence on {name}", text in formats, True
 
 
 # Cards

@@ -25,6 +25,7 @@ from inputs import random_requests
 from lib import counting, pools, programs, seeds
 from lib.archive import of_tables, rows_at
 from lib.files import DOCS, copied
+from lib import advice
 from lib.advice import without_any
 from lib.office import WITH_ANNA, Desk
 from lib.programs import version_lines
@@ -930,6 +931,7 @@ def of_arguments(program):
 
 # Arguments of `listen` and its input, with which no server begins. The input is looked at first.
 LARGE_KEY = (b"X1 too large\n", 1)
+TAKEN_KEY = (b"S2 key taken\n", 1)
 
 LISTENED = [
     *[(["PATH", "PORT", "1"], given, BAD_KEY) for given in [b"", b"\n", b"short-1\n", b"under_score", f"{OFFICE}\n\n".encode(), 65 * b"k"]],
@@ -937,6 +939,9 @@ LISTENED = [
     (["NONE", "TAKEN", "1"], (LIMIT + 1) * b"k", LARGE_KEY),
     (["NONE", "TAKEN", "1"], OFFICE.encode(), NO_STORE),
     (["PATH", "TAKEN", "1"], f"{OFFICE}\r\n".encode(), NO_PORT),
+    (["NONE", "PORT", "1"], DRIVER.encode(), NO_STORE),
+    (["PATH", "PORT", "1"], DRIVER.encode(), TAKEN_KEY),
+    (["PATH", "TAKEN", "1"], f"{DRIVER}\n".encode(), TAKEN_KEY),
     *[(["PATH", port, "1"], OFFICE.encode(), USAGE) for port in ["0", "65536", "port", ""]],
     *[(["PATH", "PORT", count], OFFICE.encode(), USAGE) for count in ["0", "1000001", "many", ""]],
     (["PATH", OFFICE, "PORT", "1"], b"", USAGE),
@@ -962,6 +967,21 @@ def of_unlistened(program):
         yield desk.tables("after inputs with which nobody listens")
 
 
+# What `serve` prints on standard error, after the archive's path, if a driver has the office's key.
+SHARED_KEY = advice.OFFICE_KEY
+
+
+def of_shared_key(program):
+    """The comparisons of a server whose office has a driver's key: it serves, and says so on standard error."""
+    request = asking("GET /drivers/17/entries", DRIVER)
+    with tempfile.TemporaryDirectory() as folder:
+        desk = Desk(program, folder)
+        desk.prepare(WITH_ANNA)
+        with Serving(program, desk.path, DRIVER, 1) as serving:
+            yield "a shared key: the reply", serving.ask([request], False).startswith(b"HTTP/1.1 200 OK\r\n"), True
+            yield "a shared key: the end", serving.end(), (b"", 0, f"tacho: {desk.path}: {SHARED_KEY}\n".encode())
+
+
 def of_listening(program):
     """The comparisons of a server that was given its key as its input."""
     requests = [asking("GET /drivers/17/entries", key) for key in [OFFICE, DRIVER, "office-key-2", f"{OFFICE}1", OFFICE[:-1]]]
@@ -985,7 +1005,7 @@ def comparisons(program: str) -> counting.Comparisons:
     questions: list[tuple[Any, ...]] = [(of_rows, started, name) for name in ROWS]
     questions += [(of_library, started), (of_document, started), (of_variety,)]
     if started:
-        questions += [(part, started) for part in [of_readings, of_leaving, of_pieces, of_arguments, of_unlistened, of_listening]]
+        questions += [(part, started) for part in [of_readings, of_leaving, of_pieces, of_arguments, of_unlistened, of_shared_key, of_listening]]
         questions += [(of_seed, started, seed) for seed in range(SEEDS)]
     yield from pools.of_questions(questions, PROCESSES)
 

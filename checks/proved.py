@@ -53,6 +53,7 @@ TITLES = {
     "tacho_check": "whether the archive's tables represent a state",
     "tacho_message": "requests and replies as bytes",
     "tacho_http": "requests to an archive",
+    "tacho_serve": "a port, and its connections",
     "tacho_cli": "commands",
 }
 

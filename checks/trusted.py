@@ -92,6 +92,7 @@ AUDITOR = Order(
          "tacho_handover: Handover Covering Contents Parcel; tacho_tar: Tar Reading"),
         ("the program's arguments, and what it does without an archive and at one",
          "tacho_cli: Words Asked Office Files Listen Command Dump Card Holder Carried Version Fault"),
+        ("what a service does to an archive", "tacho_serve: Served"),
         ("the rest: streams, out of memory, and terms of spans and lines",
          "tacho_time: Device OrMemory Merge; tacho_line: Gains Join Walk Local"),
     ),

@@ -19,6 +19,9 @@ CODE = re.compile(rb"^([CEMNPSXZ]\d+) .*\n\Z", re.MULTILINE)
 # What `register` and `key` print after they have given a driver a key that others may guess.
 SHORT_KEY = "others may guess a key of fewer than 20 characters; make one of 32 random letters and digits"
 
+# What `serve` prints before a service if a driver has the office's key.
+OFFICE_KEY = "a driver has the office's key, and so all the rights of the office; give that driver another key"
+
 # What a line of the table has in the place of the fault's line where the sentence is on the new archive of `carry`.
 OF_NEW = "the new archive of `carry`"
 
@@ -102,5 +105,5 @@ def without_begun(path: str, errors: bytes) -> bytes:
 
 
 def all_sentences() -> set[str]:
-    """All sentences of the table, and the one on short keys."""
-    return {SHORT_KEY}.union(*sentences().values())
+    """All sentences of the table, the one on short keys and the one on the office's key."""
+    return {SHORT_KEY, OFFICE_KEY}.union(*sentences().values())

@@ -35,6 +35,7 @@ ENTRIES: dict[str, tuple[str, ...] | None] = {
     "tacho_check": ("checking", "laws", "table", "text"),
     "tacho_message": None,
     "tacho_http": None,
+    "tacho_serve": None,
     "tacho_cli": None,
 }
 
