@@ -455,12 +455,13 @@ fn minute(number: u32) -> Minute {
     Minute::new(number.min(GREATEST_MINUTE))
 }
 
-/// Returns true if a pass from the Monday on that was fed one span can take another one.
-fn takes_after(alloc: Global, first: Span, next: &Span) -> Result<bool, Fail> {
+/// Returns true if a pass from the Monday on that was fed a span from minute 1,000 to before minute 2,000 can take this one.
+fn takes_next(alloc: Global, next: &Span) -> Result<bool, Fail> {
     let base = at(0);
     if !can_be_examined(&Line::empty(alloc), base) {
         return Err(Fail::new("a base that can't be examined"));
     }
+    let first = span(Minute::new(1000), Minute::new(2000), Work, false);
     let mut pass = StretchPass::new(base);
     let mut found = FoundStretches::empty(alloc);
     if !pass.can_take(&first) {
@@ -472,11 +473,10 @@ fn takes_after(alloc: Global, first: Span, next: &Span) -> Result<bool, Fail> {
 
 #[test]
 fn spans_come_in_order(rt: HostRuntime) -> Result<(), Fail> {
-    let first = span(Minute::new(1000), Minute::new(2000), Work, false);
     for &(start, past, wanted) in NEXT {
         for crew in [false, true] {
             let next = span(minute(start), minute(past), Rest, crew);
-            let taken = takes_after(rt.alloc(), first, &next)?;
+            let taken = takes_next(rt.alloc(), &next)?;
             assert!(rt; taken == wanted, "of {start} to {past}");
         }
     }
