@@ -12,7 +12,7 @@ use Rattle.tacho_state.specs.declared.caller.Caller.{Caller}
 use Rattle.tacho_state.specs.declared.caller.Caller.TheVariants as caller
 use Rattle.tacho_sheet.specs.declared.fault.SheetFault.{SheetFault}
 use Rattle.tacho_sheet.specs.declared.fault.SheetFault.TheVariants as sheet
-use Rattle.tacho_desk.specs.Doing.{AsksOnly, Serves}
+use Rattle.tacho_desk.specs.Doing.{AsksOnly, CarriesOut}
 use Rattle.tacho_sheet.specs.Fault.{IsFailure, card_fault, sheet_fault}
 use Rattle.tacho_desk.specs.Tasks.{Does, IsFaulty, IsSound, want_of}
 use Rattle.tacho_desk.specs.Told.{Answer}
@@ -94,7 +94,7 @@ module _ {w : Wish} {unread : Option (List ℕ)} {failed : Bool} {K : Type 0} {s
     {is_clean is_live : K → Type 0} {leaves : K → List State → Type 0} {is_same : K → K → Type 0} where
   -- the input was read, or is not needed
   performed_by : {old new : K} {answer : Answer} (input : List ℕ) → IfSome unread (λ all. input ≡ all) → (failed ≡ true → ⊥)
-      → Serves stands is_clean is_live leaves is_same old new (is_command w.want) answer (Performs w input)
+      → CarriesOut stands is_clean is_live leaves is_same old new (is_command w.want) answer (Performs w input)
       → AsksOnly old new (looks_ahead w.want) (AreSound w input) (AreArgumentsFaulty w input) answer
       → Performed stands is_clean is_live leaves is_same old new w unread failed answer
   performed_by {old} {new} input whole sound serves asks = record {
@@ -126,7 +126,7 @@ module _ {w : Wish} {unread : Option (List ℕ)} {failed : Bool} {K : Type 0} {s
   -- a task without an input
   pub without_input : {old new : K} {answer : Answer} (t : Task) → failed ≡ false → OfficeWants w (Ok t)
       → want_of t ≡ w.want → takes_input w.want ≡ false
-      → Serves stands is_clean is_live leaves is_same old new (is_command (want_of t)) answer (Does t [])
+      → CarriesOut stands is_clean is_live leaves is_same old new (is_command (want_of t)) answer (Does t [])
       → AsksOnly old new (looks_ahead (want_of t)) (IsSound t []) (IsFaulty t []) answer
       → Performed stands is_clean is_live leaves is_same old new w unread failed answer
   without_input {old} {new} {answer} t sound is same none d asks =
@@ -163,7 +163,7 @@ module _ {w : Wish} {unread : Option (List ℕ)} {failed : Bool} {K : Type 0} {s
   -- an input that was read
   pub over_input : {old new : K} {answer : Answer} (t : Task) (input : List ℕ) → OfficeWants w (Ok t) → want_of t ≡ w.want
       → takes_input w.want ≡ true → HasRead unread failed input
-      → Serves stands is_clean is_live leaves is_same old new (is_command (want_of t)) answer (Does t input)
+      → CarriesOut stands is_clean is_live leaves is_same old new (is_command (want_of t)) answer (Does t input)
       → AsksOnly old new (looks_ahead (want_of t)) (IsSound t input) (IsFaulty t input) answer
       → Performed stands is_clean is_live leaves is_same old new w unread failed answer
   over_input {old} {new} {answer} t input is same one h d asks =

@@ -2,7 +2,7 @@
 use Rattle.std.specs.Prelude.{◌≡◌, ℕ, ◌<◌, ◌≤◌, ◌⊎◌, Bool, true, false, List, [], Option, Ok, Err, IfSome, length}
 use Rattle.tacho_state.specs.State.{State}
 use Rattle.tacho_state.specs.declared.caller.Caller.TheVariants as caller
-use Rattle.tacho_desk.specs.Doing.{AsksOnly, Doing, Refuses, Serves}
+use Rattle.tacho_desk.specs.Doing.{AsksOnly, Doing, Refuses, CarriesOut}
 use Rattle.tacho_desk.specs.Tasks.{Does, IsFaulty, IsSound}
 use Rattle.tacho_desk.specs.Told.{Answer, bytes_of}
 use Rattle.tacho_desk.specs.Wants.{is_command, looks_ahead, takes_input}
@@ -85,7 +85,7 @@ pub record Performed {K : Type 0} (stands : K → State → Type 0) (is_clean is
   pub input : List ℕ
   pub read : IfSome unread (λ all. input ≡ all)
   pub device : failed ≡ true → (answer ≡ Err fault.Device) × (new ≡ old)
-  pub serves : failed ≡ false → Serves stands is_clean is_live leaves is_same old new (is_command w.want) answer (Performs w input)
+  pub serves : failed ≡ false → CarriesOut stands is_clean is_live leaves is_same old new (is_command w.want) answer (Performs w input)
   pub x2 : answer ≡ Err fault.Device → failed ≡ true
   pub asks : failed ≡ false → AsksOnly old new (looks_ahead w.want) (AreSound w input) (AreArgumentsFaulty w input) answer
 

@@ -2,7 +2,7 @@
 use Rattle.std.specs.Prelude.{◌≡◌, ℕ, List, Result, nat_lt, true}
 use Rattle.tacho_card.specs.declared.file.Part.{Part}
 use Rattle.tacho_state.specs.State.{State}
-use Rattle.tacho_desk.specs.Doing.{Serves}
+use Rattle.tacho_desk.specs.Doing.{CarriesOut}
 use Rattle.tacho_desk.specs.Told.{Answer}
 use Rattle.tacho_sheet.specs.declared.fault.Fault.{Fault}
 use Rattle.tacho_cli.specs.Files.{FileAnswer, ImportsRead, IsFileRead, count_of, ends, is_added, is_refused, is_repeated}
@@ -14,7 +14,7 @@ pub record AnswersFile {K : Type 0} (Gives : List ℕ → Result (List ℕ) Faul
   pub read : Result (List ℕ) Fault
   pub given : Gives name read
   pub is : IsFileRead read
-  pub serves : Serves stands is_clean is_live leaves is_same old new true answer (ImportsRead p read)
+  pub serves : CarriesOut stands is_clean is_live leaves is_same old new true answer (ImportsRead p read)
 
 -- the counts are those of these files
 pub record IsTally (tally : Tally) (files : List FileAnswer) : Type 0 where

@@ -3,7 +3,7 @@ use Rattle.std.proofs.Common.{◌≡◌, ◌⊎◌, Bool, List, Result, Ok, Err,
 use Rattle.std.specs.Prelude.{IsErrAnd}
 use Rattle.tacho_state.specs.State.{State}
 use Rattle.tacho_state.proofs.ReadLemmas.{IsSameAsItself}
-use Rattle.tacho_desk.specs.Doing.{Doing, Serves}
+use Rattle.tacho_desk.specs.Doing.{Doing, CarriesOut}
 use Rattle.tacho_sheet.specs.Fault.{IsFailure}
 use Rattle.tacho_desk.specs.Told.{Answer, answer_of}
 use Rattle.tacho_sheet.specs.declared.fault.Fault.{Fault}
@@ -19,11 +19,11 @@ module _ {K : Type 0} (stands : K → State → Type 0) (is_clean is_live : K �
   -- if one meaning implies another, a call that does the first does the second
   pub served_as : (old new : K) (command : Bool) (answer : Answer) (A B : State → Doing)
       → ((s : State) (answer : Answer) (after : State) → A s answer after → B s answer after)
-      → Serves stands is_clean is_live leaves is_same old new command answer A → Serves stands is_clean is_live leaves is_same old new command answer B
+      → CarriesOut stands is_clean is_live leaves is_same old new command answer A → CarriesOut stands is_clean is_live leaves is_same old new command answer B
   served_as old new command (Ok told) A B h d = search rules
   served_as old new command (Err f) A B h d = search rules
 
   -- nothing was done: the task answers this fault, or memory ran out, or the store failed
   pub nothing : IsSameAsItself is_same → (keeper : K) (command : Bool) (f : Fault) (Does : State → Doing) → ((s : State) → Does s (Err f) s ⊎ IsFailure f)
-      → Serves stands is_clean is_live leaves is_same keeper keeper command (Err f) Does
+      → CarriesOut stands is_clean is_live leaves is_same keeper keeper command (Err f) Does
   nothing same_self keeper command f Does h = (let same = same_self keeper in search rules)

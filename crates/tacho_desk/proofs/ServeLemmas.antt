@@ -7,7 +7,7 @@ use Rattle.tacho_state.specs.State.{State}
 use Rattle.tacho_state.specs.Steps.{Content, Turn}
 use Rattle.tacho_state.specs.declared.fault.StoreFault.{StoreFault}
 use Rattle.tacho_state.specs.declared.fault.StoreFault.TheVariants as store
-use Rattle.tacho_desk.specs.Doing.{AsksOnly, Doing, Serves, Steps, in_words}
+use Rattle.tacho_desk.specs.Doing.{AsksOnly, Doing, CarriesOut, Steps, in_words}
 use Rattle.tacho_sheet.specs.Fault.{IsFailure, card_fault, fault_of_store, sheet_fault}
 use Rattle.tacho_sheet.specs.declared.fault.SheetFault.{SheetFault}
 use Rattle.tacho_desk.specs.Tasks.{OrCsv}
@@ -20,8 +20,8 @@ module _ {K : Type 0} {stands : K → State → Type 0} {is_clean is_live : K �
     {is_same : K → K → Type 0} {old new : K} where
   -- what an input is read as decides what the task does
   pub read_as : {X : Type 0} {answer : Answer} {Is : X → Type 0} {Does : State → X → Doing} (x : X) → Is x
-      → Serves stands is_clean is_live leaves is_same old new true answer (λ s. Does s x)
-      → Serves stands is_clean is_live leaves is_same old new true answer (λ s answer after. (x : X) × Is x × Does s x answer after)
+      → CarriesOut stands is_clean is_live leaves is_same old new true answer (λ s. Does s x)
+      → CarriesOut stands is_clean is_live leaves is_same old new true answer (λ s answer after. (x : X) × Is x × Does s x answer after)
   read_as {X = X} {answer = answer} {Is = Is} {Does = Does} x is =
       served_as stands is_clean is_live leaves is_same old new true answer (λ s. Does s x)
       (λ s answer after. (x : X) × Is x × Does s x answer after) (λ s answer after does. (x, is, does))
@@ -31,7 +31,7 @@ module _ {K : Type 0} {stands : K → State → Type 0} {is_clean is_live : K �
       (words : B → Told) (result : Result Text Fault) → IsErrAnd result (λ e. e ≡ fault_of_store f)
       → ((s : State) (g : StoreFault) → (step s).answer ≡ Err g → (step s).after ≡ s) → IsOfNoFile {A = A} (Err f) ⊎ (new ≡ old)
       → Acts stands is_clean is_live leaves is_same is_same_of view old new (Err f) step
-      → Serves stands is_clean is_live leaves is_same old new true (answer_of result) (λ s. Steps words (step s))
+      → CarriesOut stands is_clean is_live leaves is_same old new true (answer_of result) (λ s. Steps words (step s))
   refused words result is keeps of_file acts = search rules
 
 -- a text of CSV that was not read: its first fault, or E8; or memory ran out
@@ -39,7 +39,7 @@ pub unread : {K A : Type 0} {stands : K → State → Type 0} {is_clean is_live 
     {is_same : K → K → Type 0} {keeper : K} {Is : Result A SheetFault → Type 0} {Does : State → Result A SheetFault → Doing}
     (f : SheetFault) (result : Result Text Fault) → IsErrAnd result (λ e. e ≡ sheet_fault f) → is_same keeper keeper
     → ((s : State) → Does s (Err f) (Err (sheet_fault f)) s) → OrCsv Is (Err f) ⊎ IsFailure (sheet_fault f)
-    → Serves stands is_clean is_live leaves is_same keeper keeper true (answer_of result)
+    → CarriesOut stands is_clean is_live leaves is_same keeper keeper true (answer_of result)
     (λ s answer after. (read : Result A SheetFault) × OrCsv Is read × Does s read answer after)
 unread f result is same refuses (inl read) = read_as (Err f) read (search rules)
 unread f result is same refuses (inr up) = search rules

@@ -100,7 +100,7 @@ ChangesNothing true (Err f) = Unit {0}
 
 -- a call does what the task requires. If the archive is clean after the call, it was clean before, and on success it is live. A reading and
 -- a refusal leave every row as it was. What a command answered with success is durable.
-pub record Serves {K : Type 0} (stands : K → State → Type 0) (is_clean is_live : K → Type 0) (leaves : K → List State → Type 0)
+pub record CarriesOut {K : Type 0} (stands : K → State → Type 0) (is_clean is_live : K → Type 0) (leaves : K → List State → Type 0)
     (is_same : K → K → Type 0) (old new : K) (command : Bool) (answer : Answer) (Does : State → Doing) : Type 0 where
   pub clean : is_clean new → is_clean old
   pub live : is_clean new → OnOk answer (is_live new)

@@ -1,7 +1,7 @@
 //! Texts about all drivers.
 
 ghost use Rattle.std.specs.Prelude.{false};
-ghost use Rattle.tacho_desk.specs.Doing.{IsOfArchive, Serves};
+ghost use Rattle.tacho_desk.specs.Doing.{IsOfArchive, CarriesOut};
 ghost use Rattle.tacho_desk.specs.Tasks.{ShowsForecast, ShowsMonthOfAll};
 ghost use Rattle.tacho_desk.specs.Told.{answer_of};
 ghost use Rattle.tacho_desk.specs.declared.want.MonthOfAll.TheVariants as all;
@@ -23,7 +23,7 @@ pub(crate) fn show_month<K: Keeper>(
     month: Month,
     reading: MonthOfAll,
 ) -> Result<Text, Fault>
-    ensures serves { Serves K.stands K.is_clean K.is_live K.leaves K.is_same keeper.old keeper.new false (answer_of result)
+    ensures serves { CarriesOut K.stands K.is_clean K.is_live K.leaves K.is_same keeper.old keeper.new false (answer_of result)
         (ShowsMonthOfAll reading month) }
     ensures archive { IsOfArchive false (answer_of result) }
 {
@@ -37,7 +37,7 @@ pub(crate) fn show_month<K: Keeper>(
 /// Writes a row for each driver: what is held and how far it is examined, the gaps, the number of breaches in a month and in the month before,
 /// and the open debts.
 fn standing<K: Keeper>(alloc: Global, keeper: &mut K, month: Month) -> Result<Text, Fault>
-    ensures serves { Serves K.stands K.is_clean K.is_live K.leaves K.is_same keeper.old keeper.new false (answer_of result)
+    ensures serves { CarriesOut K.stands K.is_clean K.is_live K.leaves K.is_same keeper.old keeper.new false (answer_of result)
         (ShowsMonthOfAll all.Standing month) }
     ensures archive { IsOfArchive false (answer_of result) }
 {
@@ -56,7 +56,7 @@ pub(crate) fn forecast<K: Keeper>(
     keeper: &mut K,
     minute: Minute,
 ) -> Result<Text, Fault>
-    ensures serves { Serves K.stands K.is_clean K.is_live K.leaves K.is_same keeper.old keeper.new false (answer_of result) (ShowsForecast minute) }
+    ensures serves { CarriesOut K.stands K.is_clean K.is_live K.leaves K.is_same keeper.old keeper.new false (answer_of result) (ShowsForecast minute) }
     ensures archive { IsOfArchive false (answer_of result) }
 {
     let drivers = keeper.drivers(alloc)?;
@@ -71,7 +71,7 @@ pub(crate) fn forecast<K: Keeper>(
 
 /// Writes a row for each driver: what they hold in a month, how much of it is examined, and the number of breaches of each rule.
 fn overview<K: Keeper>(alloc: Global, keeper: &mut K, month: Month) -> Result<Text, Fault>
-    ensures serves { Serves K.stands K.is_clean K.is_live K.leaves K.is_same keeper.old keeper.new false (answer_of result)
+    ensures serves { CarriesOut K.stands K.is_clean K.is_live K.leaves K.is_same keeper.old keeper.new false (answer_of result)
         (ShowsMonthOfAll all.Overview month) }
     ensures archive { IsOfArchive false (answer_of result) }
 {
@@ -95,7 +95,7 @@ fn overview<K: Keeper>(alloc: Global, keeper: &mut K, month: Month) -> Result<Te
 
 /// Writes a row for each breach of a month, driver by driver.
 fn incidents<K: Keeper>(alloc: Global, keeper: &mut K, month: Month) -> Result<Text, Fault>
-    ensures serves { Serves K.stands K.is_clean K.is_live K.leaves K.is_same keeper.old keeper.new false (answer_of result)
+    ensures serves { CarriesOut K.stands K.is_clean K.is_live K.leaves K.is_same keeper.old keeper.new false (answer_of result)
         (ShowsMonthOfAll all.Incidents month) }
     ensures archive { IsOfArchive false (answer_of result) }
 {

@@ -1,7 +1,7 @@
 //! The commands, with their numbers and their input.
 
 ghost use Rattle.std.specs.Prelude.{◌≡◌, false, true};
-ghost use Rattle.tacho_desk.specs.Doing.{AsksOnly, IsOfArchive, Serves};
+ghost use Rattle.tacho_desk.specs.Doing.{AsksOnly, IsOfArchive, CarriesOut};
 ghost use Rattle.tacho_desk.specs.Tasks.{Enters, Imports, IsFaulty, IsSound, Rebases, Registers, Rekeys, Renames, Withdraws, WithdrawsRange, imported_told};
 ghost use Rattle.tacho_desk.specs.declared.task.Task.TheVariants as task;
 ghost use Rattle.tacho_desk.specs.Told.{answer_of, told_text};
@@ -23,7 +23,7 @@ pub(crate) fn register<K: Keeper>(
     keeper: &mut K,
     input: &[u8],
 ) -> Result<Text, Fault>
-    ensures serves { Serves K.stands K.is_clean K.is_live K.leaves K.is_same keeper.old keeper.new true (answer_of result) (Registers input.now) }
+    ensures serves { CarriesOut K.stands K.is_clean K.is_live K.leaves K.is_same keeper.old keeper.new true (answer_of result) (Registers input.now) }
     ensures asks { AsksOnly keeper.old keeper.new false (IsSound task.Register input.now) (IsFaulty task.Register input.now)
         (answer_of result) }
 {
@@ -40,7 +40,7 @@ pub(crate) fn import<K: Keeper>(
     part: Part,
     input: &[u8],
 ) -> Result<Text, Fault>
-    ensures serves { Serves K.stands K.is_clean K.is_live K.leaves K.is_same keeper.old keeper.new true (answer_of result)
+    ensures serves { CarriesOut K.stands K.is_clean K.is_live K.leaves K.is_same keeper.old keeper.new true (answer_of result)
         (Imports caller part input.now) }
     ensures asks { AsksOnly keeper.old keeper.new false (IsSound (task.Import caller part) input.now)
         (IsFaulty (task.Import caller part) input.now) (answer_of result) }
@@ -67,7 +67,7 @@ pub(crate) fn enter<K: Keeper>(
     driver: u32,
     input: &[u8],
 ) -> Result<Text, Fault>
-    ensures serves { Serves K.stands K.is_clean K.is_live K.leaves K.is_same keeper.old keeper.new true (answer_of result) (Enters driver input.now) }
+    ensures serves { CarriesOut K.stands K.is_clean K.is_live K.leaves K.is_same keeper.old keeper.new true (answer_of result) (Enters driver input.now) }
     ensures asks { AsksOnly keeper.old keeper.new false (IsSound (task.Enter driver) input.now) (IsFaulty (task.Enter driver) input.now)
         (answer_of result) }
 {
@@ -88,7 +88,7 @@ pub(crate) fn withdraw<K: Keeper>(
     driver: u32,
     number: u32,
 ) -> Result<Text, Fault>
-    ensures serves { Serves K.stands K.is_clean K.is_live K.leaves K.is_same keeper.old keeper.new true (answer_of result) (Withdraws driver number) }
+    ensures serves { CarriesOut K.stands K.is_clean K.is_live K.leaves K.is_same keeper.old keeper.new true (answer_of result) (Withdraws driver number) }
     ensures archive { IsOfArchive false (answer_of result) }
 {
     keeper.withdraw(alloc, driver, number, number)?;
@@ -102,7 +102,7 @@ pub(crate) fn withdraw_range<K: Keeper>(
     driver: u32,
     range: EntryRange,
 ) -> Result<Text, Fault>
-    ensures serves { Serves K.stands K.is_clean K.is_live K.leaves K.is_same keeper.old keeper.new true (answer_of result)
+    ensures serves { CarriesOut K.stands K.is_clean K.is_live K.leaves K.is_same keeper.old keeper.new true (answer_of result)
         (WithdrawsRange driver range) }
     ensures archive { IsOfArchive false (answer_of result) }
 {
@@ -113,7 +113,7 @@ pub(crate) fn withdraw_range<K: Keeper>(
 
 /// Sets a driver's base.
 pub(crate) fn rebase<K: Keeper>(keeper: &mut K, driver: u32, base: ReadDay) -> Result<Text, Fault>
-    ensures serves { Serves K.stands K.is_clean K.is_live K.leaves K.is_same keeper.old keeper.new true (answer_of result) (Rebases driver base) }
+    ensures serves { CarriesOut K.stands K.is_clean K.is_live K.leaves K.is_same keeper.old keeper.new true (answer_of result) (Rebases driver base) }
     ensures archive { IsOfArchive false (answer_of result) }
 {
     let day = base.day();
@@ -123,7 +123,7 @@ pub(crate) fn rebase<K: Keeper>(keeper: &mut K, driver: u32, base: ReadDay) -> R
 
 /// Sets a driver's key, given as a line.
 pub(crate) fn rekey<K: Keeper>(keeper: &mut K, driver: u32, input: &[u8]) -> Result<Text, Fault>
-    ensures serves { Serves K.stands K.is_clean K.is_live K.leaves K.is_same keeper.old keeper.new true (answer_of result) (Rekeys driver input.now) }
+    ensures serves { CarriesOut K.stands K.is_clean K.is_live K.leaves K.is_same keeper.old keeper.new true (answer_of result) (Rekeys driver input.now) }
     ensures asks { AsksOnly keeper.old keeper.new false (IsSound (task.Key driver) input.now) (IsFaulty (task.Key driver) input.now)
         (answer_of result) }
 {
@@ -134,7 +134,7 @@ pub(crate) fn rekey<K: Keeper>(keeper: &mut K, driver: u32, input: &[u8]) -> Res
 
 /// Sets a driver's name, given as a line.
 pub(crate) fn rename<K: Keeper>(keeper: &mut K, driver: u32, input: &[u8]) -> Result<Text, Fault>
-    ensures serves { Serves K.stands K.is_clean K.is_live K.leaves K.is_same keeper.old keeper.new true (answer_of result) (Renames driver input.now) }
+    ensures serves { CarriesOut K.stands K.is_clean K.is_live K.leaves K.is_same keeper.old keeper.new true (answer_of result) (Renames driver input.now) }
     ensures asks { AsksOnly keeper.old keeper.new false (IsSound (task.Name driver) input.now) (IsFaulty (task.Name driver) input.now)
         (answer_of result) }
 {

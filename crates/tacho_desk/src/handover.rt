@@ -1,7 +1,7 @@
 //! What is handed over of a driver and a period.
 
 ghost use Rattle.std.specs.Prelude.{false};
-ghost use Rattle.tacho_desk.specs.Doing.{IsOfArchive, Serves};
+ghost use Rattle.tacho_desk.specs.Doing.{IsOfArchive, CarriesOut};
 ghost use Rattle.tacho_desk.specs.Tasks.{ShowsHandover};
 ghost use Rattle.tacho_desk.specs.Told.{answer_of};
 
@@ -21,7 +21,7 @@ pub(crate) fn handover<K: Keeper>(
     driver: u32,
     period: Period,
 ) -> Result<Text, Fault>
-    ensures serves { Serves K.stands K.is_clean K.is_live K.leaves K.is_same keeper.old keeper.new false (answer_of result)
+    ensures serves { CarriesOut K.stands K.is_clean K.is_live K.leaves K.is_same keeper.old keeper.new false (answer_of result)
         (ShowsHandover period driver) }
     ensures archive { IsOfArchive false (answer_of result) }
 {

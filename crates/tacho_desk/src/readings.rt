@@ -1,7 +1,7 @@
 //! Texts about a driver.
 
 ghost use Rattle.std.specs.Prelude.{◌≡◌, false, true};
-ghost use Rattle.tacho_desk.specs.Doing.{IsOfArchive, Serves};
+ghost use Rattle.tacho_desk.specs.Doing.{IsOfArchive, CarriesOut};
 ghost use Rattle.tacho_desk.specs.Tasks.{ShowsAhead, ShowsDriver, ShowsDrivers, ShowsFile, ShowsForm, ShowsMonth, ShowsReading, ShowsVersion, cut_at};
 ghost use Rattle.tacho_desk.specs.Told.{answer_of};
 
@@ -26,7 +26,7 @@ pub(crate) fn show<K: Keeper>(
     driver: u32,
     reading: Reading,
 ) -> Result<Text, Fault>
-    ensures serves { Serves K.stands K.is_clean K.is_live K.leaves K.is_same keeper.old keeper.new false (answer_of result)
+    ensures serves { CarriesOut K.stands K.is_clean K.is_live K.leaves K.is_same keeper.old keeper.new false (answer_of result)
         (ShowsReading reading driver) }
     ensures archive { IsOfArchive false (answer_of result) }
 {
@@ -60,7 +60,7 @@ pub(crate) fn form<K: Keeper>(
     driver: u32,
     before: Option<ReadDay>,
 ) -> Result<Text, Fault>
-    ensures serves { Serves K.stands K.is_clean K.is_live K.leaves K.is_same keeper.old keeper.new false (answer_of result)
+    ensures serves { CarriesOut K.stands K.is_clean K.is_live K.leaves K.is_same keeper.old keeper.new false (answer_of result)
         (ShowsForm before driver) }
     ensures archive { IsOfArchive false (answer_of result) }
 {
@@ -79,7 +79,7 @@ pub(crate) fn show_month<K: Keeper>(
     month: Month,
     reading: MonthReading,
 ) -> Result<Text, Fault>
-    ensures serves { Serves K.stands K.is_clean K.is_live K.leaves K.is_same keeper.old keeper.new false (answer_of result)
+    ensures serves { CarriesOut K.stands K.is_clean K.is_live K.leaves K.is_same keeper.old keeper.new false (answer_of result)
         (ShowsMonth reading month driver) }
     ensures archive { IsOfArchive false (answer_of result) }
 {
@@ -120,7 +120,7 @@ pub(crate) fn ahead<K: Keeper>(
     driver: u32,
     minute: Minute,
 ) -> Result<Text, Fault>
-    ensures serves { Serves K.stands K.is_clean K.is_live K.leaves K.is_same keeper.old keeper.new false (answer_of result)
+    ensures serves { CarriesOut K.stands K.is_clean K.is_live K.leaves K.is_same keeper.old keeper.new false (answer_of result)
         (ShowsAhead minute driver) }
     ensures archive { IsOfArchive true (answer_of result) }
 {
@@ -136,7 +136,7 @@ pub(crate) fn file<K: Keeper>(
     driver: u32,
     number: u32,
 ) -> Result<Text, Fault>
-    ensures serves { Serves K.stands K.is_clean K.is_live K.leaves K.is_same keeper.old keeper.new false (answer_of result)
+    ensures serves { CarriesOut K.stands K.is_clean K.is_live K.leaves K.is_same keeper.old keeper.new false (answer_of result)
         (ShowsFile driver number) }
     ensures archive { IsOfArchive false (answer_of result) }
 {
@@ -146,7 +146,7 @@ pub(crate) fn file<K: Keeper>(
 /// Answers with the version of the program. A reading that is done shows that the archive can be read, so the archive is asked for a driver,
 /// whom no empty key names.
 pub(crate) fn version<K: Keeper>(keeper: &mut K) -> Result<Text, Fault>
-    ensures serves { Serves K.stands K.is_clean K.is_live K.leaves K.is_same keeper.old keeper.new false (answer_of result) ShowsVersion }
+    ensures serves { CarriesOut K.stands K.is_clean K.is_live K.leaves K.is_same keeper.old keeper.new false (answer_of result) ShowsVersion }
     ensures archive { IsOfArchive false (answer_of result) }
 {
     keeper.who(&[])?;
@@ -155,7 +155,7 @@ pub(crate) fn version<K: Keeper>(keeper: &mut K) -> Result<Text, Fault>
 
 /// Writes what is listed of a driver.
 pub(crate) fn driver<K: Keeper>(alloc: Global, keeper: &mut K, driver: u32) -> Result<Text, Fault>
-    ensures serves { Serves K.stands K.is_clean K.is_live K.leaves K.is_same keeper.old keeper.new false (answer_of result) (ShowsDriver driver) }
+    ensures serves { CarriesOut K.stands K.is_clean K.is_live K.leaves K.is_same keeper.old keeper.new false (answer_of result) (ShowsDriver driver) }
     ensures archive { IsOfArchive false (answer_of result) }
 {
     let found = keeper.driver(alloc, driver)?;
@@ -164,7 +164,7 @@ pub(crate) fn driver<K: Keeper>(alloc: Global, keeper: &mut K, driver: u32) -> R
 
 /// Writes the list of all drivers.
 pub(crate) fn drivers<K: Keeper>(alloc: Global, keeper: &mut K) -> Result<Text, Fault>
-    ensures serves { Serves K.stands K.is_clean K.is_live K.leaves K.is_same keeper.old keeper.new false (answer_of result) ShowsDrivers }
+    ensures serves { CarriesOut K.stands K.is_clean K.is_live K.leaves K.is_same keeper.old keeper.new false (answer_of result) ShowsDrivers }
     ensures archive { IsOfArchive false (answer_of result) }
 {
     let drivers = keeper.drivers(alloc)?;

@@ -1,4 +1,4 @@
-ghost use Rattle.tacho_desk.specs.Doing.{AsksOnly, Serves};
+ghost use Rattle.tacho_desk.specs.Doing.{AsksOnly, CarriesOut};
 ghost use Rattle.tacho_desk.specs.Tasks.{Does, IsFaulty, IsSound, want_of};
 ghost use Rattle.tacho_desk.specs.Told.{answer_of};
 ghost use Rattle.tacho_desk.specs.Wants.{is_command, looks_ahead};
@@ -111,7 +111,7 @@ pub fn carry_out<K: Keeper>(
     task: Task,
     input: &[u8],
 ) -> Result<Text, Fault>
-    ensures serves { Serves K.stands K.is_clean K.is_live K.leaves K.is_same keeper.old keeper.new (is_command (want_of task)) (answer_of result)
+    ensures serves { CarriesOut K.stands K.is_clean K.is_live K.leaves K.is_same keeper.old keeper.new (is_command (want_of task)) (answer_of result)
         (Does task input.now) }
     ensures asks { AsksOnly keeper.old keeper.new (looks_ahead (want_of task)) (IsSound task input.now) (IsFaulty task input.now)
         (answer_of result) }

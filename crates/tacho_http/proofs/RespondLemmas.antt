@@ -10,7 +10,7 @@ use Rattle.tacho_state.specs.Acts.{Reads}
 use Rattle.tacho_state.specs.State.{State}
 use Rattle.tacho_state.specs.Steps.{owner}
 use Rattle.tacho_state.specs.declared.caller.Caller.{Caller}
-use Rattle.tacho_desk.specs.Doing.{ChangesNothing, Doing, Done, IsDurable, Serves, CrashMayLeave as TaskCrashMayLeave}
+use Rattle.tacho_desk.specs.Doing.{ChangesNothing, Doing, Done, IsDurable, CarriesOut, CrashMayLeave as TaskCrashMayLeave}
 use Rattle.tacho_sheet.specs.Fault.{IsFailure}
 use Rattle.tacho_desk.specs.Tasks.{Does}
 use Rattle.tacho_desk.specs.Told.{Answer}
@@ -22,7 +22,7 @@ use Rattle.tacho_message.specs.Request.{key_of}
 use Rattle.tacho_message.specs.declared.method.Method.{Method}
 use Rattle.tacho_message.specs.declared.reply.Status.{Status}
 use Rattle.tacho_message.specs.declared.reply.Status.TheVariants as status
-use Rattle.tacho_http.specs.Answer.{AnswersInput, Asks, HasRepliedOrFailed, HasReplied, IsPosted, IsUnfinished, LacksMore, MayAsk}
+use Rattle.tacho_http.specs.Answer.{AnswersInput, IsAskedBy, HasRepliedOrFailed, HasReplied, IsPosted, IsUnfinished, LacksMore, MayAsk}
 use Rattle.tacho_http.specs.Answer.{Responds, CrashMayLeaveResult, CrashMayLeaveReply, is_done}
 use Rattle.tacho_http.specs.Asked.{is_post, wish_by}
 use Rattle.tacho_http.specs.Pages.{AnsweredOrGiven, AsksNoPage, GivesOrDoes, ReactsOrGives, file_at}
@@ -111,7 +111,7 @@ module _ {K : Type 0} {stands : K → State → Type 0} {is_clean is_live : K �
   -- the task was carried out
   pub carried_out : {old new : K} {response : Response} {answer : Answer} (want : Want) {Does : State → Doing}
       (i : (left : List ℕ) × IfSome unread (λ all. left ≡ all)) → reply_of response ≡ reply_to want answer
-      → Serves stands is_clean is_live leaves is_same old new command answer Does
+      → CarriesOut stands is_clean is_live leaves is_same old new command answer Does
       → ((s : State) (answer : Answer) (after : State) → Does s answer after → Wants i.0 s (reply_to want answer) after)
       → Responds stands is_clean is_live leaves is_same old new command unread (Ok response) Wants
   carried_out {new = new} {response = response} {answer = answer} want {Does = Does} i is serves h = record {
@@ -248,7 +248,7 @@ module _ {K : Type 0} {stands : K → State → Type 0} {is_clean is_live : K �
       → Responds stands is_clean is_live leaves is_same old new (is_post (method_of h.method)) mid result
       (λ left s. ByKey office key h (after_head ++ left) s)
       → (IsErr result → LacksMore (MayAsk office) h after_head mid left)
-      → (IsErr result → is_clean new → (s : State) → stands old s → LacksMore (Asks s office) h after_head mid left)
+      → (IsErr result → is_clean new → (s : State) → stands old s → LacksMore (IsAskedBy s office) h after_head mid left)
       → AnsweredOrGiven files office stands is_clean is_live leaves is_same old new unread left result
   keyed {old = old} {new = new} {key = key} came after_head {h = h} {mid = mid} {result = result} has cut begins none r lacks known = record {
     answered = record {

@@ -77,9 +77,9 @@ MayAsk office key caller.Office = bytes_eq key office ≡ true
 MayAsk office key (caller.Driver n) = bytes_eq key office ≡ false
 
 -- who asks with a key, by the archive's state: a driver with the driver's own key
-abbrev pub Asks : State → List ℕ → List ℕ → Caller → Type 0
-Asks s office key caller.Office = bytes_eq key office ≡ true
-Asks s office key (caller.Driver n) = (bytes_eq key office ≡ false) × (owner key s ≡ Ok (Some n))
+abbrev pub IsAskedBy : State → List ℕ → List ℕ → Caller → Type 0
+IsAskedBy s office key caller.Office = bytes_eq key office ≡ true
+IsAskedBy s office key (caller.Driver n) = (bytes_eq key office ≡ false) × (owner key s ≡ Ok (Some n))
 
 -- what the head asks for has a body, and less than all of it has come; the key decides who asks
 pub record LacksBody (IsBy : List ℕ → Caller → Type 0) (h : RequestHead) (rest : List ℕ) : Type 0 where
@@ -138,7 +138,7 @@ pub record Answered {K : Type 0} (Wants : List ℕ → State → Reaction) (stan
   pub same : IsUndone command result → is_clean new → (s : State) → stands old s → is_same old new
   pub crash : is_clean new → (s : State) (past : List State) → stands old s → leaves old past → CrashMayLeaveResult (leaves new) past (Wants input s) result
   pub unfinished : IsErr result → IsUnfinished (MayAsk office) unread left
-  pub known : is_clean new → (s : State) → stands old s → IsErr result → IsUnfinished (Asks s office) unread left
+  pub known : is_clean new → (s : State) → stands old s → IsErr result → IsUnfinished (IsAskedBy s office) unread left
 
 -- the whole reply was written; and below, a prefix of it
 abbrev pub IsWritten : Option (List ℕ) → Option (List ℕ) → Reply → Type 0

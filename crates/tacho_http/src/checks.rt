@@ -9,7 +9,7 @@ ghost use Rattle.tacho_message.specs.Request.{IsRequest, key_of};
 ghost use Rattle.tacho_state.specs.State.{State};
 ghost use Rattle.tacho_desk.specs.Wants.{is_command};
 ghost use Rattle.tacho_desk.specs.Words.{wish_in};
-ghost use Rattle.tacho_http.specs.Answer.{Asks, LacksMore, MayAsk, Responds};
+ghost use Rattle.tacho_http.specs.Answer.{IsAskedBy, LacksMore, MayAsk, Responds};
 ghost use Rattle.tacho_http.specs.Asked.{is_post};
 ghost use Rattle.tacho_http.specs.Serve.{ByCaller, ByKey, IsReserved, Runs};
 
@@ -42,7 +42,7 @@ pub(crate) fn by_key<K: Keeper, R: Source>(
         → LacksMore (MayAsk office_key.now) h request.now.after_head.now (R.unread reader.old) (R.unread reader.new) }
     ensures known { (h : RequestHead) → IsRequest request.now h → key_of h ≡ Some key.now → IsErr result
         → K.is_clean keeper.new → (s : State) → K.stands keeper.old s
-        → LacksMore (Asks s office_key.now) h request.now.after_head.now (R.unread reader.old) (R.unread reader.new) }
+        → LacksMore (IsAskedBy s office_key.now) h request.now.after_head.now (R.unread reader.old) (R.unread reader.new) }
     ensures failed { IsErr result ↔ (R.has_failed reader.new ≡ true) }
 {
     let caller = if key == office_key {

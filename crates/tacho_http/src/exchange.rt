@@ -2,7 +2,7 @@
 
 ghost use Rattle.std.specs.Prelude.{◌≡◌, ◌↔◌, Err, false, true, IfOk, IsErr, IsErrOf};
 ghost use Rattle.tacho_state.specs.State.{State};
-ghost use Rattle.tacho_http.specs.Answer.{Asks, Exchanged, IsUnfinished, MayAsk, is_done};
+ghost use Rattle.tacho_http.specs.Answer.{IsAskedBy, Exchanged, IsUnfinished, MayAsk, is_done};
 ghost use Rattle.tacho_http.specs.Pages.{AnsweredOrGiven, ExchangedOrGiven};
 ghost use Rattle.tacho_http.specs.Serve.{Reacts};
 
@@ -89,7 +89,7 @@ pub fn answer<K: Keeper, R: Source, W: Sink>(
     ensures unfinished { result ≡ Err IoFault.Read → IsUnfinished (MayAsk office_key.now) (R.unread reader.old) (R.unread reader.new) }
     // So the body of a request isn't read if its key is nobody's.
     ensures known { K.is_clean keeper.new → (s : State) → K.stands keeper.old s → result ≡ Err IoFault.Read
-        → IsUnfinished (Asks s office_key.now) (R.unread reader.old) (R.unread reader.new) }
+        → IsUnfinished (IsAskedBy s office_key.now) (R.unread reader.old) (R.unread reader.new) }
     ensures read { IsErrOf result IoFault.Read ↔ (R.has_failed reader.new ≡ true) }
     ensures write { IsErrOf result IoFault.Write ↔ (W.has_failed writer.new ≡ true) }
 {
@@ -128,7 +128,7 @@ pub fn answer_or_page<K: Keeper, R: Source, W: Sink>(
     ensures unfinished { result ≡ Err IoFault.Read → IsUnfinished (MayAsk office_key.now) (R.unread reader.old) (R.unread reader.new) }
     // So the body of a request isn't read if its key is nobody's.
     ensures known { K.is_clean keeper.new → (s : State) → K.stands keeper.old s → result ≡ Err IoFault.Read
-        → IsUnfinished (Asks s office_key.now) (R.unread reader.old) (R.unread reader.new) }
+        → IsUnfinished (IsAskedBy s office_key.now) (R.unread reader.old) (R.unread reader.new) }
     ensures read { IsErrOf result IoFault.Read ↔ (R.has_failed reader.new ≡ true) }
     ensures write { IsErrOf result IoFault.Write ↔ (W.has_failed writer.new ≡ true) }
 {

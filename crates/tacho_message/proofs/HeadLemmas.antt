@@ -9,7 +9,7 @@ use Rattle.httparse.specs.Grammar.{RequestHead, print_request, HasNoRequest, Nev
 use Rattle.httparse.specs.Spans.{RequestExceeds, RequestOverflows}
 use Rattle.tacho_message.specs.Head.{HasNoHead, IsRefused, IsUnfinished}
 use Rattle.tacho_message.specs.declared.head.HeadFault.TheVariants.{Bad, Read, TooLarge}
-use Rattle.tacho_message.proofs.ReadLemmas.{consumed_kept, ended_begins, some_begins, take-append-more}
+use Rattle.tacho_message.proofs.ReadLemmas.{ended_begins, some_begins, take-append-more}
 
 -- the first n bytes of an input that begins with a head of at most n bytes
 pub take-head : (n : ℕ) (h : RequestHead) (rest input : List ℕ) → input ≡ print_request h ++ rest → length (print_request h) ≤ n

@@ -60,13 +60,6 @@ ended_begins came (Some all) (Some rest) (Some more) h none end =
     let empty : rest ≡ [] = none ∙ end in
     sym (rw empty at h ∙ append-nil came)
 
--- a read that failed consumed nothing
-pub consumed_kept : (known left after : Option (List ℕ)) (came : List ℕ) → Consumes known left came → Keeps left after → Consumes known after came
-consumed_kept None left after came h keeps = tt
-consumed_kept (Some all) None after came h keeps = absurd h
-consumed_kept (Some all) (Some rest) None came h keeps = absurd keeps
-consumed_kept (Some all) (Some rest) (Some same) came h keeps = h ∙ ap (λ (xs : List ℕ). came ++ xs) (sym keeps)
-
 -- ---- a buffer that was not filled
 
 -- a prefix that doesn't fill the buffer is shorter than the buffer

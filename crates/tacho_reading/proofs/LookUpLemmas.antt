@@ -43,11 +43,6 @@ is_stored it d same = record {
   entries = ap (λ (x : ListedDriver). x.entries) same;
 }
 
--- if nothing was found, the fact for nothing holds
-pub not_found : {X : Type 0} (found : Option X) (P : Type 0) (Q : X → Type 0) → is_some found ≡ false → MatchOption found P Q → P
-not_found None P Q is h = h
-not_found (Some x) P Q is h = absurd (let e = is in cc)
-
 -- ---- what a call found
 
 -- such a fault, handed on

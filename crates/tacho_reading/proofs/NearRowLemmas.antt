@@ -6,7 +6,7 @@ use Rattle.std.proofs.lemmas.List.Sorted.{IsPermutation-sym, IsPermutation-map, 
 use Rattle.tacho_time.specs.declared.span.Span.{Span}
 use Rattle.tacho_time.specs.declared.span.Mark.{Mark}
 use Rattle.tacho_time.specs.Spans.{Covers, Gives, IsCanonicalOf}
-use Rattle.tacho_state.specs.Disjoint.{Keeps, near}
+use Rattle.tacho_state.specs.Disjoint.{GiveExactly, near}
 use Rattle.tacho_state.specs.State.{Driver, State, IsDownloaded, Held, driver_of}
 use Rattle.tacho_tables.specs.declared.rows.StoredSpan.{StoredSpan}
 use Rattle.tacho_tables.specs.Rows.{SpanRow}
@@ -60,10 +60,10 @@ read_line rows n a b found line p h =
 
 -- a driver's card spans keep what the driver is given
 pub card_kept : (t : Tables) (s : State) (n : ℕ) (d : Driver) → TablesRepresent t s → driver_of n s ≡ Some d
-    → Keeps (spans_of n t.card_spans) (IsDownloaded d)
-card_kept t s n d h k = subst (λ (j : ℕ). Keeps (spans_of j t.card_spans) (IsDownloaded d)) (found_number n s d k)
+    → GiveExactly (spans_of n t.card_spans) (IsDownloaded d)
+card_kept t s n d h k = subst (λ (j : ℕ). GiveExactly (spans_of j t.card_spans) (IsDownloaded d)) (found_number n s d k)
     (found_of t n s d k h.each).card_spans
 
 -- a driver's held rows keep what the driver holds
-pub held_kept : (t : Tables) (s : State) (n : ℕ) (d : Driver) → TablesRepresent t s → driver_of n s ≡ Some d → Keeps (spans_of n t.held) (Held d)
-held_kept t s n d h k = subst (λ (j : ℕ). Keeps (spans_of j t.held) (Held d)) (found_number n s d k) (found_of t n s d k h.each).held
+pub held_kept : (t : Tables) (s : State) (n : ℕ) (d : Driver) → TablesRepresent t s → driver_of n s ≡ Some d → GiveExactly (spans_of n t.held) (Held d)
+held_kept t s n d h k = subst (λ (j : ℕ). GiveExactly (spans_of j t.held) (Held d)) (found_number n s d k) (found_of t n s d k h.each).held

@@ -4,7 +4,7 @@ use Rattle.std.specs.List.{AllByRecursion}
 use Rattle.tacho_time.specs.declared.span.Span.{Span}
 use Rattle.tacho_state.specs.Content.{AreRead}
 use Rattle.tacho_state.specs.Distinct.{HasNot, AreDistinct}
-use Rattle.tacho_state.specs.Disjoint.{Keeps}
+use Rattle.tacho_state.specs.Disjoint.{GiveExactly}
 use Rattle.tacho_state.specs.State.{Driver, State, IsDownloaded, Held, driver_of, put}
 use Rattle.tacho_state.proofs.EqualLemmas.{eq_false, eq_not, eq_true}
 use Rattle.tacho_state.proofs.DistinctLemmas.{IsKeyFreeFor, distinct_put, found_head, found_not, found_tail, own_key, put_has}
@@ -26,8 +26,8 @@ moved t u d s h = record {
   read = h.read;
   entries = s.entries ∙ h.entries;
   full = h.full;
-  card_spans = subst (λ (x : List Span). Keeps x (IsDownloaded d)) (sym s.card_spans) h.card_spans;
-  held = subst (λ (x : List Span). Keeps x (Held d)) (sym s.held) h.held;
+  card_spans = subst (λ (x : List Span). GiveExactly x (IsDownloaded d)) (sym s.card_spans) h.card_spans;
+  held = subst (λ (x : List Span). GiveExactly x (Held d)) (sym s.held) h.held;
 }
 
 -- likewise for all drivers with other numbers than the changed one

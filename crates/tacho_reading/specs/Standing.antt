@@ -8,7 +8,7 @@ use Rattle.tacho_state.specs.Distinct.{AreDistinct, HasNot}
 use Rattle.tacho_state.specs.Limits.{IsName, IsNote}
 use Rattle.tacho_state.specs.Numbers.{activity_number, mark_number, numbered_activity, numbered_mark, IsMark}
 use Rattle.tacho_state.specs.State.{Download, Entry, Driver, State, IsDownloaded, Held, AreFull, driver_of}
-use Rattle.tacho_state.specs.Disjoint.{Keeps}
+use Rattle.tacho_state.specs.Disjoint.{GiveExactly}
 use Rattle.tacho_state.specs.Content.{AreRead}
 use Rattle.tacho_state.specs.Summaries.{Summary}
 use Rattle.tacho_tables.specs.Rows.{SpanRow, DownloadRow, EntryRow, DriverRow}
@@ -70,8 +70,8 @@ pub record RowsRepresent (t : Tables) (d : Driver) : Type 0 where
   pub read : AreRead d.downloads
   pub entries : driver_entry_rows d.number t.entries ≡ rows_of_entries d.number 1 d.entries
   pub full : AreFull d.entries
-  pub card_spans : Keeps (spans_of d.number t.card_spans) (IsDownloaded d)
-  pub held : Keeps (spans_of d.number t.held) (Held d)
+  pub card_spans : GiveExactly (spans_of d.number t.card_spans) (IsDownloaded d)
+  pub held : GiveExactly (spans_of d.number t.held) (Held d)
 
 abbrev pub RowsRepresentEach : Tables → State → Type 0
 RowsRepresentEach t [] = Unit {0}

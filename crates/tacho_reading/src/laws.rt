@@ -8,7 +8,7 @@ ghost use Rattle.tacho_time.specs.Spans.{Gives, IsCanonicalOf};
 ghost use Rattle.tacho_time.specs.declared.span.Span.{Span};
 ghost use Rattle.tacho_state.specs.Content.{AreRead};
 ghost use Rattle.tacho_state.specs.Distinct.{AreDistinct};
-ghost use Rattle.tacho_state.specs.Disjoint.{Keeps, near};
+ghost use Rattle.tacho_state.specs.Disjoint.{GiveExactly, near};
 ghost use Rattle.tacho_state.specs.State.{Driver, Entry, State, IsDownloaded, Held, driver_of, driver_with_key, holding, download_from, entry_from};
 ghost use Rattle.tacho_state.specs.Steps.{file_of, owner, rekey_step};
 ghost use Rattle.tacho_tables.specs.declared.rows.StoredSpan.{StoredSpan as StoredValue};
@@ -57,9 +57,9 @@ pub fn states_are_read()
 /// A driver's rows keep what the driver's downloads give, and what the driver holds.
 pub fn rows_are_kept()
     ensures card { (t : Tables) (s : State) (n : ℕ) (d : Driver) → TablesRepresent t s → driver_of n s ≡ Some d
-        → Keeps (spans_of n t.card_spans) (IsDownloaded d) }
+        → GiveExactly (spans_of n t.card_spans) (IsDownloaded d) }
     ensures held { (t : Tables) (s : State) (n : ℕ) (d : Driver) → TablesRepresent t s → driver_of n s ≡ Some d
-        → Keeps (spans_of n t.held) (Held d) }
+        → GiveExactly (spans_of n t.held) (Held d) }
 {}
 
 /// The line of the rows read near a range is the line of the driver's spans near it.

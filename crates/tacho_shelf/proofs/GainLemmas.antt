@@ -13,7 +13,7 @@ use Rattle.tacho_line.proofs.MergeLemmas.{append_gives, front_gives, back_gives}
 use Rattle.tacho_state.specs.declared.fault.StoreFault.{StoreFault}
 use Rattle.tacho_state.specs.declared.fault.StoreFault.TheVariants.{Contradiction, Memory}
 use Rattle.tacho_state.specs.Least.{bound, least_conflict, is_within}
-use Rattle.tacho_state.specs.Disjoint.{Keeps, near, AreInRange}
+use Rattle.tacho_state.specs.Disjoint.{GiveExactly, near, AreInRange}
 use Rattle.tacho_state.proofs.DisjointLemmas.{disjoint_canonical}
 use Rattle.tacho_state.proofs.NearLemmas.{given_near, near_given}
 use Rattle.tacho_state.proofs.GainLemmas.{none_new, some_new, clash_new}
@@ -91,7 +91,7 @@ module _ (held line spans : List Span) (known : IsCanonicalOf (Gives held) line)
   past : ℕ
   past = bound line + bound spans
 
-  keeps : Keeps line (Gives held)
+  keeps : GiveExactly line (Gives held)
   keeps = record { disjoint = disjoint_canonical line known.canonical; same = known.same }
 
   -- all minutes of `spans` are in the range from 0 to before it

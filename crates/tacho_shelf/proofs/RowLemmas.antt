@@ -7,7 +7,7 @@ use Rattle.tacho_time.specs.Spans.{Gives, IsCanonicalOf, Conflicts}
 use Rattle.tacho_line.specs.Line.{mark_at}
 use Rattle.tacho_line.proofs.LineLemmas.{held_given, given_held as given_held_in}
 use Rattle.tacho_line.proofs.MergeLemmas.{front_gives}
-use Rattle.tacho_state.specs.Disjoint.{Keeps}
+use Rattle.tacho_state.specs.Disjoint.{GiveExactly}
 use Rattle.tacho_state.specs.State.{Download, Entry, Driver, State, driver_of, Held, given_spans, entered_spans, held_spans, held_mark}
 use Rattle.tacho_state.proofs.DisjointLemmas.{disjoint_canonical}
 use Rattle.tacho_state.proofs.MapLemmas.{held_map}
@@ -27,7 +27,7 @@ pub line_marks : (d : Driver) (line : List Span) → IsCanonicalOf (Held d) line
 line_marks d line h = fun_ext (λ m. go m (mark_at line m) refl (held_mark d m) refl) where
   go : (m : ℕ) (a : Option Mark) → mark_at line m ≡ a → (b : Option Mark) → held_mark d m ≡ b → mark_at line m ≡ held_mark d m
   go m (Some j) e b f =
-      let kept : Keeps line (Held d) = record { disjoint = disjoint_canonical line h.canonical; same = h.same } in
+      let kept : GiveExactly line (Held d) = record { disjoint = disjoint_canonical line h.canonical; same = h.same } in
       e ∙ sym ((held_map d line m j kept).0 ((h.same m j).0 (held_given line m j e)))
   go m None e (Some k) f =
       let held = given_held_in line m k h.canonical ((h.same m k).1 (held_given (held_spans d) m k f)) in cc

@@ -5,7 +5,7 @@ use Rattle.tacho_time.specs.declared.span.Mark.{Mark}
 use Rattle.tacho_time.specs.Spans.{Gives}
 use Rattle.tacho_line.specs.Line.{covers, mark_at}
 use Rattle.tacho_line.proofs.LineLemmas.{held_given, first_holds}
-use Rattle.tacho_state.specs.Disjoint.{Keeps}
+use Rattle.tacho_state.specs.Disjoint.{GiveExactly}
 use Rattle.tacho_state.specs.State.{Driver, Held, held_mark, held_spans}
 use Rattle.tacho_state.proofs.DisjointLemmas.{disjoint_one}
 
@@ -19,7 +19,7 @@ given_mark (s ∷ ss) m k (inr g) = go (covers s m) (given_mark ss m k g) where
   go false rest = rest
 
 -- it is the mark with which the driver holds the minute
-pub held_map : (d : Driver) (helds : List Span) (m : ℕ) (mark : Mark) → Keeps helds (Held d) → Held d m mark ↔ (held_mark d m ≡ Some mark)
+pub held_map : (d : Driver) (helds : List Span) (m : ℕ) (mark : Mark) → GiveExactly helds (Held d) → Held d m mark ↔ (held_mark d m ≡ Some mark)
 held_map d helds m mark h = (there, held_given (held_spans d) m mark) where
   there : Held d m mark → held_mark d m ≡ Some mark
   there g =

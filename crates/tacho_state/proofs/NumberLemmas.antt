@@ -19,12 +19,6 @@ activity_there (suc (suc zero)) h = refl
 activity_there (suc (suc (suc zero))) h = refl
 activity_there (suc (suc (suc (suc n)))) h = absurd (omega (arith, h))
 
-pub activity_low : (a : Activity) → activity_number a < 4
-activity_low Rest = omega arith
-activity_low Available = omega arith
-activity_low Work = omega arith
-activity_low Drive = omega arith
-
 -- the number of an activity is the number of its mark without crew
 pub single_back : (a : Activity) → numbered_mark (activity_number a) ≡ record { activity = a; crew = false }
 single_back Rest = refl

@@ -13,7 +13,7 @@ AreDisjoint [] = Unit {0}
 AreDisjoint (s ∷ ss) = (s.start < s.past) × ShareNone (s ∷ []) ss × AreDisjoint ss
 
 -- the spans are disjoint and give exactly these pairs
-pub record Keeps (spans : List Span) (P : ℕ → Mark → Type 0) : Type 0 where
+pub record GiveExactly (spans : List Span) (P : ℕ → Mark → Type 0) : Type 0 where
   pub disjoint : AreDisjoint spans
   pub same : SamePairs (Gives spans) P
 

@@ -8,7 +8,7 @@ ghost use Rattle.tacho_time.specs.declared.span.Span.{Span};
 ghost use Rattle.tacho_line.specs.Line.{IsWithin, Together, AreGains};
 ghost use Rattle.tacho_state.specs.declared.fault.StoreFault.{StoreFault as StoreFaultValue};
 ghost use Rattle.tacho_state.specs.declared.fault.StoreFault.TheVariants.{Card, Contradiction, Full};
-ghost use Rattle.tacho_state.specs.Disjoint.{Keeps, near, with_range_replaced, AreInRange, AllWithin, With, HasNews};
+ghost use Rattle.tacho_state.specs.Disjoint.{GiveExactly, near, with_range_replaced, AreInRange, AllWithin, With, HasNews};
 ghost use Rattle.tacho_state.specs.Least.{least_conflict, is_within};
 ghost use Rattle.tacho_state.specs.State.{Driver, Entry, State, IsDownloaded, Held, held_mark, driver_of, entered_spans, entry_from, marked_from, put, with_marked, with_marked_between, with_download, with_batch};
 ghost use Rattle.tacho_card.specs.declared.fault.CardFault.{CardFault};
@@ -24,42 +24,42 @@ use crate::keeper::Keeper;
 /// A withdrawal by range. The new spans are those that don't overlap the entry, the parts of the others outside it, and, inside it, what
 /// card spans and other entries near it give. They keep what the driver holds after the withdrawal.
 pub fn withdrawal_by_range()
-    ensures { (d : Driver) (number : ℕ) (e : Entry) (cards helds inside : List Span) → Keeps cards (IsDownloaded d) → Keeps helds (Held d)
+    ensures { (d : Driver) (number : ℕ) (e : Entry) (cards helds inside : List Span) → GiveExactly cards (IsDownloaded d) → GiveExactly helds (Held d)
         → entry_from 1 number d.entries ≡ Some e → e.start ≤ e.past
         → IsCanonicalOf (λ m k. IsWithin e.start e.past m × Gives (near e.start e.past cards ++ near e.start e.past (entered_spans (marked_from 1 number d.entries))) m k) inside
-        → Keeps (with_range_replaced e.start e.past helds inside) (Held (with_marked number d)) }
+        → GiveExactly (with_range_replaced e.start e.past helds inside) (Held (with_marked number d)) }
 {}
 
 /// An import by range. Once the gains against what is near the file's spans are added, the spans keep what the driver is given and holds
 /// after the import.
 pub fn import_by_range()
-    ensures { (d : Driver) (cards helds card_line line spans card_gains gains : List Span) (part : ℕ) (file : List ℕ) (start past : ℕ) → Keeps cards (IsDownloaded d) → Keeps helds (Held d) → AreInRange start past spans
+    ensures { (d : Driver) (cards helds card_line line spans card_gains gains : List Span) (part : ℕ) (file : List ℕ) (start past : ℕ) → GiveExactly cards (IsDownloaded d) → GiveExactly helds (Held d) → AreInRange start past spans
         → IsCanonicalOf (Gives (near start past cards)) card_line → IsCanonicalOf (Gives (near start past helds)) line → AreGains card_line spans card_gains → AreGains line spans gains
-        → Keeps (cards ++ card_gains) (IsDownloaded (with_download part file spans d)) × Keeps (helds ++ gains) (Held (with_download part file spans d)) }
+        → GiveExactly (cards ++ card_gains) (IsDownloaded (with_download part file spans d)) × GiveExactly (helds ++ gains) (Held (with_download part file spans d)) }
 {}
 
 /// A batch by range. Once the gains against what is near its entries are added, the spans keep what the driver holds after it.
 pub fn batch_by_range()
-    ensures { (d : Driver) (helds line gains : List Span) (batch : List Entry) (start past : ℕ) → Keeps helds (Held d) → AreInRange start past (entered_spans batch)
-        → IsCanonicalOf (Gives (near start past helds)) line → AreGains line (entered_spans batch) gains → Keeps (helds ++ gains) (Held (with_batch batch d)) }
+    ensures { (d : Driver) (helds line gains : List Span) (batch : List Entry) (start past : ℕ) → GiveExactly helds (Held d) → AreInRange start past (entered_spans batch)
+        → IsCanonicalOf (Gives (near start past helds)) line → AreGains line (entered_spans batch) gains → GiveExactly (helds ++ gains) (Held (with_batch batch d)) }
 {}
 
 /// The first contradiction between spans and what is held near them is the first one with all that is held. If they have gains, there is no
 /// contradiction.
 pub fn contradiction_by_range()
-    ensures first { (d : Driver) (helds line spans : List Span) (start past m : ℕ) → Keeps helds (Held d) → AreInRange start past spans
+    ensures first { (d : Driver) (helds line spans : List Span) (start past m : ℕ) → GiveExactly helds (Held d) → AreInRange start past spans
         → IsCanonicalOf (Gives (near start past helds)) line → IsFirstConflict (Together line spans) m → IsFirstConflict (With (Held d) spans) m }
-    ensures none { (d : Driver) (helds line spans gains : List Span) (start past m : ℕ) → Keeps helds (Held d) → AreInRange start past spans
+    ensures none { (d : Driver) (helds line spans gains : List Span) (start past m : ℕ) → GiveExactly helds (Held d) → AreInRange start past spans
         → IsCanonicalOf (Gives (near start past helds)) line → AreGains line spans gains → Conflicts (With (Held d) spans) m → ⊥ }
 {}
 
 /// Spans have no gains against the card spans near them exactly if downloads give all their pairs.
 pub fn repeated_by_range()
-    ensures within { (d : Driver) (cards line spans : List Span) (start past : ℕ) → Keeps cards (IsDownloaded d)
+    ensures within { (d : Driver) (cards line spans : List Span) (start past : ℕ) → GiveExactly cards (IsDownloaded d)
         → IsCanonicalOf (Gives (near start past cards)) line → AreGains line spans [] → AllWithin (Gives spans) (IsDownloaded d) }
-    ensures new { (d : Driver) (cards line spans gains : List Span) (x : Span) (start past : ℕ) → Keeps cards (IsDownloaded d) → AreInRange start past spans
+    ensures new { (d : Driver) (cards line spans gains : List Span) (x : Span) (start past : ℕ) → GiveExactly cards (IsDownloaded d) → AreInRange start past spans
         → IsCanonicalOf (Gives (near start past cards)) line → AreGains line spans (x ∷ gains) → AllWithin (Gives spans) (IsDownloaded d) → ⊥ }
-    ensures conflict { (d : Driver) (cards line spans : List Span) (start past m : ℕ) → Keeps cards (IsDownloaded d)
+    ensures conflict { (d : Driver) (cards line spans : List Span) (start past m : ℕ) → GiveExactly cards (IsDownloaded d)
         → IsCanonicalOf (Gives (near start past cards)) line → IsFirstConflict (Together line spans) m → AllWithin (Gives spans) (IsDownloaded d) → ⊥ }
 {}
 
@@ -74,29 +74,29 @@ pub fn searches()
 /// The answer of an import, from what is near its spans: `card_line` is what the driver's downloads give there, and `line` is what the
 /// driver holds there.
 pub fn import_answers()
-    ensures repeated { (d : Driver) (part : ℕ) (file : List ℕ) (cards card_line spans : List Span) (start past : ℕ) → Keeps cards (IsDownloaded d)
+    ensures repeated { (d : Driver) (part : ℕ) (file : List ℕ) (cards card_line spans : List Span) (start past : ℕ) → GiveExactly cards (IsDownloaded d)
         → IsCanonicalOf (Gives (near start past cards)) card_line → AreGains card_line spans [] → import_own part file spans d ≡ Ok (Repeated d.number, d) }
-    ensures contradicted { (d : Driver) (part : ℕ) (file : List ℕ) (cards helds card_line line spans : List Span) (start past m : ℕ) → Keeps cards (IsDownloaded d) → Keeps helds (Held d)
+    ensures contradicted { (d : Driver) (part : ℕ) (file : List ℕ) (cards helds card_line line spans : List Span) (start past m : ℕ) → GiveExactly cards (IsDownloaded d) → GiveExactly helds (Held d)
         → AreInRange start past spans → IsCanonicalOf (Gives (near start past cards)) card_line → IsCanonicalOf (Gives (near start past helds)) line
         → HasNews card_line spans → IsFirstConflict (Together line spans) m → import_own part file spans d ≡ Err (Contradiction m) }
-    ensures added { (d : Driver) (part : ℕ) (file : List ℕ) (cards helds card_line line spans gains : List Span) (start past : ℕ) → Keeps cards (IsDownloaded d) → Keeps helds (Held d)
+    ensures added { (d : Driver) (part : ℕ) (file : List ℕ) (cards helds card_line line spans gains : List Span) (start past : ℕ) → GiveExactly cards (IsDownloaded d) → GiveExactly helds (Held d)
         → AreInRange start past spans → IsCanonicalOf (Gives (near start past cards)) card_line → IsCanonicalOf (Gives (near start past helds)) line
         → HasNews card_line spans → AreGains line spans gains → length d.downloads < most_records
         → import_own part file spans d ≡ Ok (Added d.number (1 + length d.downloads), with_download part file spans d) }
-    ensures full { (d : Driver) (part : ℕ) (file : List ℕ) (cards helds card_line line spans gains : List Span) (start past : ℕ) → Keeps cards (IsDownloaded d) → Keeps helds (Held d)
+    ensures full { (d : Driver) (part : ℕ) (file : List ℕ) (cards helds card_line line spans gains : List Span) (start past : ℕ) → GiveExactly cards (IsDownloaded d) → GiveExactly helds (Held d)
         → AreInRange start past spans → IsCanonicalOf (Gives (near start past cards)) card_line → IsCanonicalOf (Gives (near start past helds)) line
         → HasNews card_line spans → AreGains line spans gains → most_records ≤ length d.downloads → import_own part file spans d ≡ Err Full }
 {}
 
 /// The answer of an `enter`, from what the driver holds near the batch.
 pub fn enter_answers()
-    ensures contradicted { (d : Driver) (batch : List Entry) (helds line : List Span) (start past m : ℕ) → Keeps helds (Held d)
+    ensures contradicted { (d : Driver) (batch : List Entry) (helds line : List Span) (start past m : ℕ) → GiveExactly helds (Held d)
         → AreInRange start past (entered_spans batch) → IsCanonicalOf (Gives (near start past helds)) line
         → IsFirstConflict (Together line (entered_spans batch)) m → enter_own batch d ≡ Err (Contradiction m) }
-    ensures entered { (d : Driver) (batch : List Entry) (helds line gains : List Span) (start past : ℕ) → Keeps helds (Held d)
+    ensures entered { (d : Driver) (batch : List Entry) (helds line gains : List Span) (start past : ℕ) → GiveExactly helds (Held d)
         → AreInRange start past (entered_spans batch) → IsCanonicalOf (Gives (near start past helds)) line
         → AreGains line (entered_spans batch) gains → length d.entries + length batch ≤ most_records → enter_own batch d ≡ Ok (1 + length d.entries, with_batch batch d) }
-    ensures full { (d : Driver) (batch : List Entry) (helds line gains : List Span) (start past : ℕ) → Keeps helds (Held d)
+    ensures full { (d : Driver) (batch : List Entry) (helds line gains : List Span) (start past : ℕ) → GiveExactly helds (Held d)
         → AreInRange start past (entered_spans batch) → IsCanonicalOf (Gives (near start past helds)) line
         → AreGains line (entered_spans batch) gains → most_records < length d.entries + length batch → enter_own batch d ≡ Err Full }
 {}
@@ -130,7 +130,7 @@ pub fn a_changed_name()
 
 /// If spans keep what a driver holds, each held minute has one mark: that of `held_mark`.
 pub fn held_is_a_map()
-    ensures { (d : Driver) (helds : List Span) (m : ℕ) (mark : Mark) → Keeps helds (Held d) → Held d m mark ↔ (held_mark d m ≡ Some mark) }
+    ensures { (d : Driver) (helds : List Span) (m : ℕ) (mark : Mark) → GiveExactly helds (Held d) → Held d m mark ↔ (held_mark d m ≡ Some mark) }
 {}
 
 /// A card file has one content for each part, or one first fault.

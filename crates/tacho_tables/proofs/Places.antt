@@ -41,11 +41,6 @@ card_spans_at = each _ _ refl
 pub held_at : (layout : Layout) → slice_get (archive_schema layout).tables 5 ≡ Some (record (spans (codes "held")) { tree = 10 })
 held_at = each _ _ refl
 
-pub spans_at : (table : SpanTable) (layout : Layout)
-    → slice_get (archive_schema layout).tables (place_of table) ≡ Some (record (spans (name_of table)) { tree = span_table_rows table })
-spans_at CardSpans = card_spans_at
-spans_at Held = held_at
-
 -- `entry_rows` is at its place
 pub entries_at : (layout : Layout)
     → slice_get (archive_schema layout).tables (entry_place layout) ≡ Some (record made.entry_rows { tree = entry_tree layout })

@@ -54,11 +54,6 @@ first_found columns told meant of found rows ys same first =
     go (Some it) (y ∷ to) moved (row ∷ rows) shown first =
         (y, Contains-permutation (y ∷ to) ys y (IsPermutation-sym _ _ moved) (0, omega (arith), refl), first (of y) (head_is shown))
 
--- two facts about a result's value imply a third
-pub ok_both : {X E : Type 0} (r : Result X E) {P Q R : X → Type 0} → ((x : X) → P x → Q x → R x) → IfOk r P → IfOk r Q → IfOk r R
-ok_both (Ok x) both p q = both x p q
-ok_both (Err e) both p q = tt
-
 -- a fact about an optional value implies a weaker one
 pub some_weaker : {X : Type 0} (o : Option X) (P : Type 0) {Q R : X → Type 0} → ((x : X) → Q x → R x) → MatchOption o P Q
     → MatchOption o P R

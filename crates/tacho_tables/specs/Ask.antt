@@ -21,9 +21,9 @@ pub record Learns {S : Type 0} (g : Ghosts S) (old new : MutBor (Connection S)) 
       → IfOk result (fact is.layout (state g old.now).now.trees)
 
 -- likewise of an archive whose rows can be read as those of drivers
-abbrev pub Asks : {S : Type 0} → Ghosts S → MutBor (Connection S) → MutBor (Connection S) → {A E : Type 0} → Result A E
+abbrev pub LearnsIfReadable : {S : Type 0} → Ghosts S → MutBor (Connection S) → MutBor (Connection S) → {A E : Type 0} → Result A E
     → (Layout → Trees → A → Type 0) → Type 0
-Asks g old new result fact = Learns g old new result (λ layout db found. IsReadable layout db → fact layout db found)
+LearnsIfReadable g old new result fact = Learns g old new result (λ layout db found. IsReadable layout db → fact layout db found)
 
 -- the schema is that of an archive that was carried over, which keeps the table of schema 1
 abbrev pub IsCarriedOver : State → Type 0

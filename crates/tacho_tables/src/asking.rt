@@ -4,7 +4,7 @@
 ghost use Rattle.std.specs.Prelude.{◌≡◌, map};
 ghost use Rattle.sqlite.specs.Held.{state};
 ghost use Rattle.tacho_tables.specs.Schema.{meta_rows as meta_tree, driver_rows as driver_tree, old_entry_tree};
-ghost use Rattle.tacho_tables.specs.Ask.{Asks, Learns, Show, AreFirst, own_in, shown_of, own_text, number_shown, IsCarriedOver, meta_shown, old_entry_shown};
+ghost use Rattle.tacho_tables.specs.Ask.{LearnsIfReadable, Learns, Show, AreFirst, own_in, shown_of, own_text, number_shown, IsCarriedOver, meta_shown, old_entry_shown};
 
 use crate::fault::TableFault;
 use crate::statement::read;
@@ -35,7 +35,7 @@ pub fn own_rows<S: Alter>(
     driver: i64,
     table: TableName,
 ) -> Result<Vec<Row>, TableFault>
-    ensures { Asks S.Store tx.old.conn tx.new.conn result
+    ensures { LearnsIfReadable S.Store tx.old.conn tx.new.conn result
         (λ layout db found. Show (shown_of table) (own_in layout db driver table) found.items) }
 {
     read(tx, text_of(table), params![driver])
@@ -43,7 +43,7 @@ pub fn own_rows<S: Alter>(
 
 /// Reads the number of each row of `drivers`.
 pub fn number_rows<S: Alter>(tx: &mut Transaction<'_, S>) -> Result<Vec<Row>, TableFault>
-    ensures { Asks S.Store tx.old.conn tx.new.conn result
+    ensures { LearnsIfReadable S.Store tx.old.conn tx.new.conn result
         (λ layout db found. Show number_shown (db driver_tree) found.items) }
 {
     read(tx, "SELECT driver FROM drivers", &[])
