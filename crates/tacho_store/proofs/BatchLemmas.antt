@@ -5,7 +5,7 @@ use Rattle.std.proofs.lemmas.List.Elements.{filter-append}
 use Rattle.tacho_time.specs.declared.span.Span.{Span}
 use Rattle.tacho_time.specs.Spans.{Gives, IsCanonicalOf}
 use Rattle.tacho_line.specs.Line.{AreGains}
-use Rattle.tacho_state.specs.Disjoint.{Keeps, near, AreInRange}
+use Rattle.tacho_state.specs.Disjoint.{GiveExactly, near, AreInRange}
 use Rattle.tacho_state.specs.State.{Entry, Driver, State, Held, AreFull, driver_of, entered_spans, put, with_batch}
 use Rattle.tacho_state.proofs.GainLemmas.{batch_kept}
 use Rattle.tacho_state.proofs.EqualLemmas.{eq_not, eq_self}
@@ -69,7 +69,7 @@ entered_own t d batch line gains a b h w r l g = record {
       ∙ sym (rows_append d.number 1 d.entries batch);
   full = full_append d.entries batch h.full w;
   card_spans = h.card_spans;
-  held = subst (λ (x : List Span). Keeps x (Held (with_batch batch d))) (sym (added_own d.number t.held gains))
+  held = subst (λ (x : List Span). GiveExactly x (Held (with_batch batch d))) (sym (added_own d.number t.held gains))
       (batch_kept d (spans_of d.number t.held) line gains batch a b h.held r l g);
 }
 

@@ -6,7 +6,7 @@ use Rattle.tacho_line.specs.Line.{AreGains}
 use Rattle.tacho_card.specs.declared.file.Part.{Part}
 use Rattle.tacho_state.specs.Content.{AreRead, FileTells}
 use Rattle.tacho_state.specs.Numbers.{part_number}
-use Rattle.tacho_state.specs.Disjoint.{Keeps, near, AreInRange}
+use Rattle.tacho_state.specs.Disjoint.{GiveExactly, near, AreInRange}
 use Rattle.tacho_state.specs.State.{Download, Driver, State, IsDownloaded, Held, driver_of, put, with_download}
 use Rattle.tacho_state.specs.Steps.{Content}
 use Rattle.tacho_state.proofs.GainLemmas.{download_kept}
@@ -47,16 +47,16 @@ imported_own t d part file content card_line line card_gains gains a b h tells r
       read = read_more d.downloads part file content h.read tells;
       entries = h.entries;
       full = h.full;
-      card_spans = subst (λ (x : List Span). Keeps x (IsDownloaded (with_download (part_number part) file content.spans d)))
+      card_spans = subst (λ (x : List Span). GiveExactly x (IsDownloaded (with_download (part_number part) file content.spans d)))
           (sym (added_own d.number t.card_spans card_gains)) both.0;
-      held = subst (λ (x : List Span). Keeps x (Held (with_download (part_number part) file content.spans d)))
+      held = subst (λ (x : List Span). GiveExactly x (Held (with_download (part_number part) file content.spans d)))
           (sym (added_own d.number t.held gains)) both.1;
     } where
       new : Download
       new = record { part = part_number part; file = file; spans = content.spans }
 
-      both : Keeps (spans_of d.number t.card_spans ++ card_gains) (IsDownloaded (with_download (part_number part) file content.spans d))
-          × Keeps (spans_of d.number t.held ++ gains) (Held (with_download (part_number part) file content.spans d))
+      both : GiveExactly (spans_of d.number t.card_spans ++ card_gains) (IsDownloaded (with_download (part_number part) file content.spans d))
+          × GiveExactly (spans_of d.number t.held ++ gains) (Held (with_download (part_number part) file content.spans d))
       both =
           download_kept d (spans_of d.number t.card_spans) (spans_of d.number t.held) card_line line content.spans card_gains gains
           (part_number part) file a b

@@ -4,7 +4,7 @@ use Rattle.std.proofs.lemmas.List.{map-append}
 use Rattle.tacho_time.specs.declared.span.Span.{Span}
 use Rattle.tacho_time.specs.Spans.{Gives}
 use Rattle.tacho_state.specs.Distinct.{HasNot}
-use Rattle.tacho_state.specs.Disjoint.{Keeps}
+use Rattle.tacho_state.specs.Disjoint.{GiveExactly}
 use Rattle.tacho_state.specs.State.{Download, Entry, Driver, State, driver_of, driver_with_key, holding, put, with_base, with_key, with_name}
 use Rattle.tacho_state.specs.Steps.{is_another}
 use Rattle.tacho_tables.specs.Rows.{DriverRow}
@@ -24,7 +24,7 @@ each_added t row [] d h own = (own, tt)
 each_added t row (x ∷ s) d h own = (record { downloads = h.0.downloads; read = h.0.read; entries = h.0.entries; full = h.0.full; card_spans = h.0.card_spans; held = h.0.held }, each_added t row s d h.1 own)
 
 -- the empty list of spans keeps what nothing gives
-nothing_kept : Keeps [] (Gives [])
+nothing_kept : GiveExactly [] (Gives [])
 nothing_kept = record { disjoint = tt; same = λ m k. (λ g. g, λ g. g) }
 
 -- a driver without downloads and entries needs no rows
@@ -40,8 +40,8 @@ new_is t s d downloads entries none empty known free =
       read = tt;
       entries = known.entries d.number free;
       full = tt;
-      card_spans = subst (λ (x : List Span). Keeps x (Gives [])) (sym (known.card_spans d.number free)) nothing_kept;
-      held = subst (λ (x : List Span). Keeps x (Gives [])) (sym (known.held d.number free)) nothing_kept;
+      card_spans = subst (λ (x : List Span). GiveExactly x (Gives [])) (sym (known.card_spans d.number free)) nothing_kept;
+      held = subst (λ (x : List Span). GiveExactly x (Gives [])) (sym (known.held d.number free)) nothing_kept;
     }))
 
 -- the tables with a new driver's row represent the state with that driver

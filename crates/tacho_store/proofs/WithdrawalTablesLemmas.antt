@@ -9,7 +9,7 @@ use Rattle.tacho_time.specs.Spans.{Gives, IsCanonicalOf}
 use Rattle.tacho_line.specs.Line.{IsWithin}
 use Rattle.tacho_line.proofs.MergeLemmas.{append_gives, front_gives, back_gives}
 use Rattle.tacho_state.specs.Disjoint as disjoint
-use Rattle.tacho_state.specs.Disjoint.{Keeps, near, far, outside}
+use Rattle.tacho_state.specs.Disjoint.{GiveExactly, near, far, outside}
 use Rattle.tacho_state.specs.State.{Entry, Driver, State, Held, AreFull, driver_of, entry_from, entry_span, entered_spans, marked_from, put, with_marked}
 use Rattle.tacho_state.proofs.DisjointLemmas.{disjoint_canonical}
 use Rattle.tacho_state.proofs.NumberLemmas.{single_back}
@@ -304,7 +304,7 @@ withdrawn_own t d number e cards others helds inside h f r = record {
   entries = rows;
   full = full_marked 1 number d.entries h.full;
   card_spans = h.card_spans;
-  held = subst (λ (x : List Span). Keeps x (Held (with_marked number d)))
+  held = subst (λ (x : List Span). GiveExactly x (Held (with_marked number d)))
       (sym (renewed_own d.number e.start e.past (outside e.start e.past (map stored_span helds) ++ inside) t.held))
       (kept_again (spans_of d.number t.held) (map stored_span helds) inside (Held (with_marked number d)) e.start e.past full
       h.held.disjoint (near_read t.held d.number e.start e.past helds r.helds_near)

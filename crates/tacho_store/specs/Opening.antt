@@ -66,7 +66,7 @@ module _ (old new : Sqlite) where
       pub crash : IsBlank old → Survives old new (λ db. Represents db [])
 
     -- the schema of an archive and its version were found; nothing has changed
-    pub record IsChecked : Type 0 where
+    pub record FindsArchive : Type 0 where
       pub alone : IsLeftAlone
       pub live : HasCleanDisk new → OnOk result (IsTrue new.is_open)
       pub schema : OnOk result (IsArchiveSchema old.now.schema)

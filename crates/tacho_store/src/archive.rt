@@ -5,7 +5,7 @@ ghost use Rattle.tacho_state.specs.State.{State};
 ghost use Rattle.tacho_state.specs.declared.fault.StoreFault.TheVariants.{Store};
 ghost use Rattle.tacho_tables.specs.Making.{IsVersioned};
 ghost use Rattle.tacho_reading.specs.Kept.{IsBlank, SeesWhileOpen, LeavesOneOf, IsSame, HasGivenUp};
-ghost use Rattle.tacho_store.specs.Opening.{Makes, CarriesOver, IsMade, IsUnmade, TellsSchema, IsChecked, IsCarried, IsEmptyArchive, IsAdopted, IsLeftAlone, IsOld, IsOpeningFault, IsMigrated, IsNotMigrated};
+ghost use Rattle.tacho_store.specs.Opening.{Makes, CarriesOver, IsMade, IsUnmade, TellsSchema, FindsArchive, IsCarried, IsEmptyArchive, IsAdopted, IsLeftAlone, IsOld, IsOpeningFault, IsMigrated, IsNotMigrated};
 
 use crate::entering::enter;
 use crate::files::files;
@@ -85,13 +85,13 @@ fn read_version<S: Alter>(conn: &mut Connection<S>) -> Result<Option<u32>, Store
     making::version(&mut tx).map_err(store_fault)
 }
 
-/// Checks that a store has schema 2 and its version, and changes nothing. Fails with S13 if it has schema 1 and that version, and with S12
-/// if its schema is another: then no statement runs.
-fn check<S: Alter>(conn: &mut Connection<S>) -> Result<(), StoreFault>
+/// Finds out whether a store has schema 2 and its version, and changes nothing. Fails with S13 if it has schema 1 and that version, and with
+/// S12 if its schema is another: then no statement runs.
+pub fn find_archive<S: Alter>(conn: &mut Connection<S>) -> Result<(), StoreFault>
     requires { conn.old.in_transaction ≡ false }
     ensures autocommit { conn.new.in_transaction ≡ false }
     ensures refused { IfErr result IsOpeningFault }
-    ensures checked { IsChecked (state S.Store conn.old) (state S.Store conn.new) result }
+    ensures found { FindsArchive (state S.Store conn.old) (state S.Store conn.new) result }
     ensures unknown { ¬ IsVersioned (state S.Store conn.old).now → (result ≡ Err Store) × (conn.new ≡ conn.old) }
 {
     let is_current = opening::has_archive(conn);
@@ -173,7 +173,7 @@ impl<S: Alter> Archive<S> {
     {
         // For the proof alone: the schema that the connection has read is that of the stored tables.
         let _sound = conn.schema();
-        match check(&mut conn) {
+        match find_archive(&mut conn) {
             Ok(()) => {
                 // For the proof alone: nothing is pending, so what is seen is what was committed.
                 let _settled = conn.is_autocommit();

@@ -11,7 +11,7 @@ mod own;
 mod refusals;
 mod withdrawal;
 
-pub use archive::{Archive, open_memory};
+pub use archive::{Archive, find_archive, open_memory};
 pub use tacho_reading::feed_rows;
 pub use tacho_state::{
     Caller, Column, Driver, Entered, Entry, EntryLine, Imported, Keeper, StoreFault, first_number,

@@ -10,26 +10,26 @@ use Rattle.tacho_store.proofs.archive.Archive.adopt.Goals as goal
 
 pub returns-in-Ok-clause-adopted : goal.returns-in-Ok-clause-adopted
 returns-in-Ok-clause-adopted g c clean =
-    let checked = c.in-Ok.ensures.checked in
-    let live = checked.live clean in
+    let found = c.in-Ok.ensures.found in
+    let live = found.live clean in
     let old = state g.S.Store c.args.conn in
-    let held = shows_found old (state g.S.Store c.check.new.conn) c.schema-sound.ensures.live
-    (checked.alone.was_open clean) (checked.alone.same clean) in
+    let held = shows_found old (state g.S.Store c.find_archive.new.conn) c.schema-sound.ensures.live
+    (found.alone.was_open clean) (found.alone.same clean) in
     let same = c.is_autocommit-settled.ensures.settled (c.is_autocommit-settled.ensures.value ∙ ap not c.in-Ok.ensures.autocommit) live in
     record {
-      was_open = checked.alone.was_open clean (checked.live clean);
+      was_open = found.alone.was_open clean (found.live clean);
       held = held;
       live = search rules;
       left = search rules;
       rests = λ s stands db may. inl (subst (λ (d : Trees). Represents d s)
-          (ap (λ (d : Database). d.trees) same ∙ sym (g.met.S.Store.settled c.check.new.conn.store db live may)) (held s stands live).1);
-      schema = archive_of old.now checked.schema (c.schema-sound.ensures.live (checked.alone.was_open clean live)).0;
-      stated = checked.stated clean;
-      version = checked.version clean;
+          (ap (λ (d : Database). d.trees) same ∙ sym (g.met.S.Store.settled c.find_archive.new.conn.store db live may)) (held s stands live).1);
+      schema = archive_of old.now found.schema (c.schema-sound.ensures.live (found.alone.was_open clean live)).0;
+      stated = found.stated clean;
+      version = found.version clean;
     }
 
 pub returns-in-Err-clause-refused : goal.returns-in-Err-clause-refused
-returns-in-Err-clause-refused g c = (c.in-Err.ensures.refused, c.check.ensures.autocommit, c.in-Err.ensures.checked.alone)
+returns-in-Err-clause-refused g c = (c.in-Err.ensures.refused, c.find_archive.ensures.autocommit, c.in-Err.ensures.found.alone)
 
 pub returns-in-Err-clause-old : goal.returns-in-Err-clause-old
-returns-in-Err-clause-old g c clean is = c.in-Err.ensures.checked.is_old clean (ap (λ (fault : StoreFault). Err fault) is)
+returns-in-Err-clause-old g c clean is = c.in-Err.ensures.found.is_old clean (ap (λ (fault : StoreFault). Err fault) is)
