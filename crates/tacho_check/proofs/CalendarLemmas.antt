@@ -16,7 +16,7 @@ use Rattle.tacho_card.specs.declared.fault.CardFault.{CardFault}
 use Rattle.tacho_card.specs.declared.file.Part.{Part}
 use Rattle.tacho_card.specs.declared.fault.CardFault.TheVariants.{RecordLength, Chain, DayRange}
 use Rattle.tacho_state.specs.State.{Download, Entry, entered_spans, entry_span, given_spans}
-use Rattle.tacho_state.specs.Disjoint.{AreDisjoint, Keeps}
+use Rattle.tacho_state.specs.Disjoint.{AreDisjoint, GiveExactly}
 use Rattle.tacho_state.specs.Steps.{Content}
 use Rattle.tacho_state.specs.Content.{ReadTells}
 use Rattle.tacho_state.specs.Within.{IsEntry, IsOf}
@@ -140,6 +140,6 @@ disjoint_in_calendar (s ∷ ss) apart early =
       disjoint_in_calendar ss apart.2 (λ m k g. early m k (inr g)),
     )
 
-pub keeps_in_calendar : (xs : List Span) (P : ℕ → Mark → Type 0) → Keeps xs P → ((m : ℕ) (k : Mark) → P m k → m < 68374080)
+pub keeps_in_calendar : (xs : List Span) (P : ℕ → Mark → Type 0) → GiveExactly xs P → ((m : ℕ) (k : Mark) → P m k → m < 68374080)
     → AllByRecursion IsInCalendar xs
 keeps_in_calendar xs P keeps early = disjoint_in_calendar xs keeps.disjoint (λ m k g. early m k ((keeps.same m k).0 g))

@@ -9,7 +9,7 @@ use Rattle.tacho_time.specs.Spans.{Gives, IsCanonicalOf, IsFirstConflict}
 use Rattle.tacho_time.proofs.ExistenceLemmas.{list_or_conflict}
 use Rattle.tacho_card.specs.declared.file.Part.TheVariants.{Both}
 use Rattle.tacho_state.specs.State.{Download, Entry, given_spans, entered_spans, AreFull}
-use Rattle.tacho_state.specs.Disjoint.{Keeps}
+use Rattle.tacho_state.specs.Disjoint.{GiveExactly}
 use Rattle.tacho_state.proofs.DisjointLemmas.{disjoint_canonical, disjoint_agrees}
 use Rattle.tacho_tables.specs.Rows.{DriverRow, driver_row, span_columns, download_columns, entry_columns}
 use Rattle.tacho_state.specs.Content.{AreRead}
@@ -28,27 +28,27 @@ use Rattle.tacho_check.proofs.WitnessLemmas.{blank_tells, blank_holder, blank_do
 -- ---- spans that keep what others give
 
 -- spans that agree have a list that keeps what they give
-kept_list : (spans : List Span) → Agrees spans → (line : List Span) × Keeps line (Gives spans)
+kept_list : (spans : List Span) → Agrees spans → (line : List Span) × GiveExactly line (Gives spans)
 kept_list spans agrees = go (list_or_conflict spans) where
   go : ((runs : List Span) × IsCanonicalOf (Gives spans) runs) ⊎ ((m : ℕ) × IsFirstConflict (Gives spans) m) → (line : List Span)
-      × Keeps line (Gives spans)
+      × GiveExactly line (Gives spans)
   go (inl it) = (it.0, record { disjoint = disjoint_canonical it.0 it.1.canonical; same = it.1.same })
   go (inr it) = absurd (agrees it.0 it.1.0)
 
 -- what is kept agrees
-kept_agrees : (line spans : List Span) → Keeps line (Gives spans) → Agrees spans
+kept_agrees : (line spans : List Span) → GiveExactly line (Gives spans) → Agrees spans
 kept_agrees line spans keeps m c =
     disjoint_agrees line m keeps.disjoint (c.0, c.1, (keeps.same m c.0).1 c.2, (keeps.same m c.1).1 c.3, c.4)
 
 -- no spans keep what no spans give
-nothing_kept : (spans : List Span) → spans ≡ [] → Keeps [] (Gives spans)
-nothing_kept spans none = subst (λ (xs : List Span). Keeps [] (Gives xs)) (sym none)
+nothing_kept : (spans : List Span) → spans ≡ [] → GiveExactly [] (Gives spans)
+nothing_kept spans none = subst (λ (xs : List Span). GiveExactly [] (Gives xs)) (sym none)
     (record { disjoint = tt; same = λ m k. ((λ g. g), (λ g. g)) })
 
 -- entries that give nothing change nothing
-without_entries : (line spans more : List Span) → more ≡ [] → Keeps line (Gives spans) → Keeps line (Gives (spans ++ more))
+without_entries : (line spans more : List Span) → more ≡ [] → GiveExactly line (Gives spans) → GiveExactly line (Gives (spans ++ more))
 without_entries line spans more none keeps =
-    subst (λ (xs : List Span). Keeps line (Gives xs)) (sym (ap (λ (xs : List Span). spans ++ xs) none ∙ append-nil spans)) keeps
+    subst (λ (xs : List Span). GiveExactly line (Gives xs)) (sym (ap (λ (xs : List Span). spans ++ xs) none ∙ append-nil spans)) keeps
 
 -- downloads of the blank file are read
 blank_read : (n : ℕ) → AreRead (blank_downloads n)
@@ -107,7 +107,7 @@ module _ (rows : TableName → List Row) (r : DriverRow) (own : rows Drivers ≡
   -- a member up to a table, from what is known of each table up to it
   built : (k : TableName) (ds : List Download) (es : List Entry) (cards held : List Span) → AreRead ds → AreFull es
       → (1 ≤ place k → AllByRecursion (IsOf r.holder) ds) → (3 ≤ place k → AllByRecursion IsEntry es)
-      → Keeps cards (Gives (given_spans ds)) → Keeps held (Gives (given_spans ds ++ entered_spans es))
+      → GiveExactly cards (Gives (given_spans ds)) → GiveExactly held (Gives (given_spans ds ++ entered_spans es))
       → length ds ≡ r.downloads → length es ≡ r.entries
       → (1 ≤ place k → IsPermutation (map download_columns (rows_of_downloads r.driver 1 ds)) (rows Downloads))
       → (2 ≤ place k → IsPermutation (map span_columns (map (span_row r.driver) cards)) (rows CardSpans))

@@ -17,7 +17,7 @@ use Rattle.tacho_time.specs.Spans.{Gives, GiveSame, SamePairs, IsCanonicalOf, Co
 use Rattle.tacho_time.specs.declared.span.Activity.{Activity}
 use Rattle.tacho_time.proofs.CanonicalLemmas.{lt_or_le, one_list}
 use Rattle.tacho_line.specs.Join.{ShareNone}
-use Rattle.tacho_state.specs.Disjoint.{AreDisjoint, Keeps}
+use Rattle.tacho_state.specs.Disjoint.{AreDisjoint, GiveExactly}
 use Rattle.tacho_state.proofs.DisjointLemmas.{disjoint_agrees}
 use Rattle.tacho_state.proofs.OrderLemmas.{disjoint_moved}
 use Rattle.tacho_check.specs.Keeping.{AreSame, Rise, IsListOf}
@@ -133,10 +133,10 @@ decides_same ws given None b apart p q r h = absurd (disjoint_agrees ws p.0 apar
 
 -- disjoint spans that give the same keep it
 pub decides_kept : (xs : List Span) (P : ℕ → Mark → Type 0) (kept : Bool) → AreDisjoint xs → (IsTrue kept ↔ SamePairs (Gives xs) P)
-    → (IsTrue kept ↔ Keeps xs P)
+    → (IsTrue kept ↔ GiveExactly xs P)
 decides_kept xs P kept apart h = (λ is. record { disjoint = apart; same = h.0 is }, λ keeps. h.1 keeps.same)
 
 -- spans that aren't disjoint keep nothing
 pub decides_unkept : (xs : List Span) (P : ℕ → Mark → Type 0) (b : Bool) → b ≡ false → (IsTrue b ↔ AreDisjoint xs)
-    → (IsTrue false ↔ Keeps xs P)
+    → (IsTrue false ↔ GiveExactly xs P)
 decides_unkept xs P b off h = ((λ is. let e : false ≡ true = is in cc), λ keeps. sym off ∙ h.1 keeps.disjoint)

@@ -11,7 +11,7 @@ use Rattle.tacho_time.specs.declared.span.Span.{Span}
 use Rattle.tacho_time.specs.declared.span.Mark.{Mark}
 use Rattle.tacho_time.specs.Spans.{Gives}
 use Rattle.tacho_time.proofs.CanonicalLemmas.{moved_same}
-use Rattle.tacho_state.specs.Disjoint.{Keeps}
+use Rattle.tacho_state.specs.Disjoint.{GiveExactly}
 use Rattle.tacho_state.specs.Numbers.{mark_number}
 use Rattle.tacho_state.proofs.OrderLemmas.{disjoint_moved}
 use Rattle.tacho_tables.specs.Schema as made
@@ -63,7 +63,7 @@ typing n = record {
 
 -- ---- spans in another order
 
-moved_keeps : (xs ys : List Span) (P : ℕ → Mark → Type 0) → IsPermutation xs ys → Keeps xs P → Keeps ys P
+moved_keeps : (xs ys : List Span) (P : ℕ → Mark → Type 0) → IsPermutation xs ys → GiveExactly xs P → GiveExactly ys P
 moved_keeps xs ys P moved keeps = record {
   disjoint = disjoint_moved xs ys moved keeps.disjoint;
   same = λ m k.
@@ -92,7 +92,7 @@ module _ (n : ℕ) (own found : List Row) (it : AreShown n (made.spans []).colum
 
   -- the spans that rows show keep what others give exactly if spans with these rows do
   pub kept_judged : (spans : List Span) → AreRead (IsParsed ShowsSpan IsSpan) found spans → (kept : Bool)
-      → (IsTrue kept ↔ Keeps spans (Gives given)) → (IsTrue kept ↔ AreKept n own given)
+      → (IsTrue kept ↔ GiveExactly spans (Gives given)) → (IsTrue kept ↔ AreKept n own given)
   kept_judged spans h kept decided =
       let is = stored (typing n) it found spans (IsPermutation-refl found) h in
       let same : spans ≡ is.xs = same_spans spans is.xs is.stands in (
@@ -101,7 +101,7 @@ module _ (n : ℕ) (own found : List Row) (it : AreShown n (made.spans []).colum
           is.within,
           record {
             same = subst (λ rows. IsPermutation rows own) (sym (map-map span_columns (span_row n) is.xs)) is.rows;
-            keeps = subst (λ ss. Keeps ss (Gives given)) same (decided.0 on);
+            keeps = subst (λ ss. GiveExactly ss (Gives given)) same (decided.0 on);
           },
         )),
         (λ others. decided.1 (moved_keeps others.0 spans (Gives given)

@@ -9,7 +9,7 @@ use Rattle.sqlite_trees.proofs.ListLemmas.{map-map, filter_all, filter_none}
 use Rattle.tacho_time.specs.declared.span.Span.{Span}
 use Rattle.tacho_state.specs.Distinct.{HasNot, AreDistinct}
 use Rattle.tacho_state.specs.State.{Download, Entry, IsDownloaded, Held}
-use Rattle.tacho_state.specs.Disjoint.{Keeps}
+use Rattle.tacho_state.specs.Disjoint.{GiveExactly}
 use Rattle.tacho_state.proofs.EqualLemmas.{eq_not, eq_self}
 use Rattle.tacho_tables.specs.Rows.{SpanRow, DownloadRow, EntryRow}
 use Rattle.tacho_reading.specs.Standing.{RowsRepresentEach, TablesRepresent, driver_columns, rows_of_downloads, rows_of_entries, row_span, span_row, spans_of}
@@ -124,8 +124,8 @@ each_member ms (m ∷ some) d within whole =
         read = whole.0.read;
         entries = one_of (λ (r : EntryRow). r.driver) entries_in (λ x. entries_own x.driver.number x.driver.entries 1) ms m d has;
         full = whole.0.full;
-        card_spans = subst (λ (ss : List Span). Keeps ss (IsDownloaded m.driver)) (sym (spans_one (λ x. x.cards) ms m d has)) whole.0.cards;
-        held = subst (λ (ss : List Span). Keeps ss (Held m.driver)) (sym (spans_one (λ x. x.held) ms m d has)) whole.0.held;
+        card_spans = subst (λ (ss : List Span). GiveExactly ss (IsDownloaded m.driver)) (sym (spans_one (λ x. x.cards) ms m d has)) whole.0.cards;
+        held = subst (λ (ss : List Span). GiveExactly ss (Held m.driver)) (sym (spans_one (λ x. x.held) ms m d has)) whole.0.held;
       },
       each_member ms some d (λ x later. within x (inr later)) whole.1,
     )

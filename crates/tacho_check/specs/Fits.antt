@@ -5,7 +5,7 @@ use Rattle.sqlite.specs.Order.{Row}
 use Rattle.tacho_time.specs.declared.span.Span.{Span}
 use Rattle.tacho_time.specs.Spans.{Gives, Conflicts}
 use Rattle.tacho_state.specs.State.{Download, Entry, given_spans, entered_spans}
-use Rattle.tacho_state.specs.Disjoint.{Keeps}
+use Rattle.tacho_state.specs.Disjoint.{GiveExactly}
 use Rattle.tacho_state.specs.Within.{IsOf, IsEntry}
 use Rattle.tacho_tables.specs.Rows.{span_columns, download_columns, entry_columns}
 use Rattle.tacho_reading.specs.Standing.{rows_of_downloads, rows_of_entries, span_row}
@@ -31,4 +31,4 @@ pub record EntriesFit (n : ℕ) (count : ℕ) (rows : List Row) (given : List Sp
 -- the spans have these rows, and keep what is given
 pub record SpansFit (n : ℕ) (rows : List Row) (given : List Span) (spans : List Span) : Type 0 where
   pub same : IsPermutation (map span_columns (map (span_row n) spans)) rows
-  pub keeps : Keeps spans (Gives given)
+  pub keeps : GiveExactly spans (Gives given)

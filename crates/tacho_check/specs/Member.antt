@@ -3,7 +3,7 @@ use Rattle.std.specs.Prelude.{◌≡◌, ℤ, pos, ◌≤◌, ◌⊎◌, List, [
 use Rattle.sqlite.specs.Order.{Row}
 use Rattle.tacho_time.specs.declared.span.Span.{Span}
 use Rattle.tacho_state.specs.State.{Driver, State, IsDownloaded, Held as HoldsPair, AreFull}
-use Rattle.tacho_state.specs.Disjoint.{Keeps}
+use Rattle.tacho_state.specs.Disjoint.{GiveExactly}
 use Rattle.tacho_tables.specs.Rows.{SpanRow, DownloadRow, EntryRow, span_columns, download_columns, entry_columns, driver_row}
 use Rattle.tacho_tables.specs.Tables.{Tables}
 use Rattle.tacho_state.specs.Content.{AreRead}
@@ -22,8 +22,8 @@ pub record Member : Type 0 where
 pub record IsWhole (m : Member) : Type 0 where
   pub read : AreRead m.driver.downloads
   pub full : AreFull m.driver.entries
-  pub cards : Keeps m.cards (IsDownloaded m.driver)
-  pub held : Keeps m.held (HoldsPair m.driver)
+  pub cards : GiveExactly m.cards (IsDownloaded m.driver)
+  pub held : GiveExactly m.held (HoldsPair m.driver)
 
 -- the typed rows of a member
 abbrev pub downloads_in : Member → List DownloadRow

@@ -2,12 +2,13 @@
 
 ghost use Rattle.std.specs.Prelude.{◌≡◌, false, Err, IfOk, IfErr, OnOk};
 ghost use Rattle.sqlite.specs.Held.{state};
+ghost use Rattle.sqlite.specs.State.{HasCleanDisk};
 ghost use Rattle.sqlite.specs.Tree.{Trees};
 ghost use Rattle.sqlite_trees.specs.View.{IsClean};
 ghost use Rattle.tacho_state.specs.declared.fault.StoreFault.TheVariants.{Store};
 ghost use Rattle.tacho_tables.specs.Schema.{IsArchiveSchema};
 ghost use Rattle.tacho_tables.specs.Tables.{IsArchive};
-ghost use Rattle.tacho_tables.specs.Ask.{Asks};
+ghost use Rattle.tacho_tables.specs.Ask.{LearnsIfReadable};
 ghost use Rattle.tacho_tables.specs.Readable.{AreAllNumbered, IsReadable};
 ghost use Rattle.tacho_reading.specs.Kept.{HasGivenUp};
 ghost use Rattle.tacho_check.specs.Checked.{IsChecked, Checks};
@@ -29,7 +30,7 @@ fn check_in<S: Alter>(
     alloc: Global,
     tx: &mut Transaction<'_, S>,
 ) -> Result<Option<Unsound>, TableFault>
-    ensures { Asks S.Store tx.old.conn tx.new.conn result IsChecked }
+    ensures { LearnsIfReadable S.Store tx.old.conn tx.new.conn result IsChecked }
 {
     let numbers = driver_numbers(alloc, tx)?;
     for number in &numbers {
@@ -47,7 +48,7 @@ fn checked_in<S: Alter>(
     alloc: Global,
     tx: &mut Transaction<'_, S>,
 ) -> Result<Option<Unsound>, StoreFault>
-    ensures asks { Asks S.Store tx.old.conn tx.new.conn result IsChecked }
+    ensures asks { LearnsIfReadable S.Store tx.old.conn tx.new.conn result IsChecked }
     ensures refused { IfErr result HasGivenUp }
 {
     check_in(alloc, tx).map_err(store_fault)
@@ -96,6 +97,7 @@ pub fn check<S: Alter + Drop>(
     ensures checked { IsClean (S.Store.view result.1) → IfOk result.0 (λ found. (is : IsArchive (state S.Store conn).now)
         × IsChecked is.layout (state S.Store conn).now.trees found) }
     ensures unknown { ¬ IsArchiveSchema (state S.Store conn).now.schema → result.0 ≡ Err Store }
+    ensures clean { IsClean (S.Store.view result.1) → HasCleanDisk (state S.Store conn) }
     ensures same { IsClean (S.Store.view result.1) → OnOk result.0 ((S.Store.view result.1).trees ≡ (state S.Store conn).now.trees) }
     ensures crash { IsClean (S.Store.view result.1)
         → (db : Trees) → S.Store.recovers result.1 db → (state S.Store conn).may_leave db }

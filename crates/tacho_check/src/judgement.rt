@@ -3,7 +3,7 @@
 ghost use Rattle.std.specs.Prelude.{◌≡◌, ◌↔◌, ℕ, ℤ, pos, List, [], IfOk, IsTrue};
 ghost use Rattle.sqlite.specs.Order.{Row as Values};
 ghost use Rattle.sqlite.specs.Tree.{Trees};
-ghost use Rattle.tacho_tables.specs.Ask.{Asks, own_in, three_shown, seven_shown};
+ghost use Rattle.tacho_tables.specs.Ask.{LearnsIfReadable, own_in, three_shown, seven_shown};
 ghost use Rattle.tacho_tables.specs.Readable.{IsReadable};
 ghost use Rattle.tacho_tables.specs.Rows.{DriverRow};
 ghost use Rattle.tacho_tables.specs.Schema.{Layout, downloads as download_table, spans as span_table, entry_rows as entry_table};
@@ -158,7 +158,7 @@ pub fn judge_driver<S: Alter>(
     tx: &mut Transaction<'_, S>,
     driver: i64,
 ) -> Result<Option<TableName>, TableFault>
-    ensures { Asks S.Store tx.old.conn tx.new.conn result (λ layout db found. IsJudged (own_in layout db driver) driver found) }
+    ensures { LearnsIfReadable S.Store tx.old.conn tx.new.conn result (λ layout db found. IsJudged (own_in layout db driver) driver found) }
 {
     let rows = read_own(tx, driver)?;
     judge(alloc, &rows)

@@ -2,7 +2,7 @@
 
 ghost use Rattle.std.specs.Prelude.{◌↔◌, IfOk, IsTrue};
 ghost use Rattle.tacho_time.specs.Spans.{Gives, GiveSame};
-ghost use Rattle.tacho_state.specs.Disjoint.{AreDisjoint, Keeps};
+ghost use Rattle.tacho_state.specs.Disjoint.{AreDisjoint, GiveExactly};
 ghost use Rattle.tacho_check.specs.Keeping.{AreSame, Rise, IsListOf};
 
 use std::alloc::Global;
@@ -68,7 +68,7 @@ fn give_same(alloc: Global, spans: &[Span], given: &[Span]) -> Result<bool, Tabl
 /// Returns true if spans, in any order, keep exactly what others give: they are disjoint, none is empty, and they give the same.
 #[tactic(auto, using(crate::proofs::KeepLemmas::decides_kept, crate::proofs::KeepLemmas::decides_unkept))]
 pub fn keeps(alloc: Global, spans: &[Span], given: &[Span]) -> Result<bool, TableFault>
-    ensures { IfOk result (λ kept. IsTrue kept ↔ Keeps spans.now (Gives given.now)) }
+    ensures { IfOk result (λ kept. IsTrue kept ↔ GiveExactly spans.now (Gives given.now)) }
 {
     if !are_disjoint(alloc, spans)? {
         return Ok(false);

@@ -2,7 +2,7 @@
 
 ghost use Rattle.std.specs.Prelude.{◌≡◌};
 ghost use Rattle.tacho_tables.specs.Schema.{driver_rows};
-ghost use Rattle.tacho_tables.specs.Ask.{Asks};
+ghost use Rattle.tacho_tables.specs.Ask.{LearnsIfReadable};
 ghost use Rattle.tacho_check.specs.Numbers.{IsDriverNumber, AreAllNumbers};
 
 use crate::parsing::{FromRow, parsed};
@@ -25,7 +25,7 @@ pub fn driver_numbers<S: Alter>(
     alloc: Global,
     tx: &mut Transaction<'_, S>,
 ) -> Result<Vec<i64>, TableFault>
-    ensures { Asks S.Store tx.old.conn tx.new.conn result
+    ensures { LearnsIfReadable S.Store tx.old.conn tx.new.conn result
         (λ layout db found. AreAllNumbers (db driver_rows) found.items) }
 {
     let rows = number_rows(tx)?;

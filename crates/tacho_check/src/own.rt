@@ -1,6 +1,6 @@
 //! The stored rows of one driver.
 
-ghost use Rattle.tacho_tables.specs.Ask.{Asks, own_in};
+ghost use Rattle.tacho_tables.specs.Ask.{LearnsIfReadable, own_in};
 ghost use Rattle.tacho_check.specs.Own.{AreOwnRows};
 
 use sqlite::{Alter, Row, Transaction};
@@ -19,7 +19,7 @@ pub struct OwnRows {
 
 /// Reads a driver's rows of all tables.
 pub fn read_own<S: Alter>(tx: &mut Transaction<'_, S>, driver: i64) -> Result<OwnRows, TableFault>
-    ensures { Asks S.Store tx.old.conn tx.new.conn result (λ layout db found. AreOwnRows (own_in layout db driver) found) }
+    ensures { LearnsIfReadable S.Store tx.old.conn tx.new.conn result (λ layout db found. AreOwnRows (own_in layout db driver) found) }
 {
     let drivers = own_rows(tx, driver, TableName::Drivers)?;
     let downloads = own_rows(tx, driver, TableName::Downloads)?;
