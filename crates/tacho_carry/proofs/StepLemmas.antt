@@ -46,7 +46,7 @@ IsChange d (Err fault) = Unit {0}
 IsChange d (Ok told) = IsSame told.1 d × IsSoundDriver told.1
 
 -- a driver who is found by a number is found by their own
-pub found_again : (n : ℕ) (s : State) (d : Driver) → driver_of n s ≡ Some d → driver_of d.number s ≡ Some d
+found_again : (n : ℕ) (s : State) (d : Driver) → driver_of n s ≡ Some d → driver_of d.number s ≡ Some d
 found_again n s d e = subst (λ (k : ℕ). driver_of k s ≡ Some d) (sym (found_number n s d e)) e
 
 -- a state stays sound if a sound driver whose key is free is put in place of the driver with the same number and holder
@@ -74,7 +74,7 @@ module _ {A : Type 0} (f : Own A) (s : State) (h : IsSound s) where
 -- ---- each command on a driver
 
 -- the card file of a driver's card is of their holder
-of_holder : (part : Part) (file : List ℕ) (content : Content) (d : Driver) → FileTells part file (Ok content) → d.holder ≡ content.holder
+pub of_holder : (part : Part) (file : List ℕ) (content : Content) (d : Driver) → FileTells part file (Ok content) → d.holder ≡ content.holder
     → IsOf d.holder (record { part = part_number part; file = file; spans = content.spans })
 of_holder part file content d tells same =
     (part, refl, subst (λ (x : List ℕ). FileTells part file (Ok (record { holder = x; spans = content.spans }))) (sym same) tells)
@@ -115,7 +115,7 @@ enter_change batch d h = go (least_conflict (held_spans d ++ entered_spans batch
           rw (e, l) (same_self d, batch_sound batch d h e room)
 
 -- a withdrawal removes no entry
-marked_length : (i number : ℕ) (es : List Entry) → length (marked_from i number es) ≡ length es
+pub marked_length : (i number : ℕ) (es : List Entry) → length (marked_from i number es) ≡ length es
 marked_length i number [] = refl
 marked_length i number (e ∷ es) = go (i == number) (marked_length (i + 1) number es) where
   go : (b : Bool) → length (marked_from (i + 1) number es) ≡ length es

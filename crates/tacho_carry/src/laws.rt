@@ -74,25 +74,23 @@ pub fn states_are_sound()
     ensures ordered { (s t : State) → IsPermutation s t → IsSound s → IsSound t }
 {}
 
-/// A sound archive whose state is within its limits is so after any list of commands within theirs: a registration, a batch of entries, a
-/// base, a key and a name that have their form. So is an archive that was carried over, and the same drivers in another order.
+/// A state within its limits stays so after any list of commands within theirs: a registration, a batch of entries, a base, a key and a
+/// name that have their form. So does a state that is carried over, and the same drivers in another order.
 pub fn states_stay_within_limits()
     ensures created { AreWithinLimits [] }
     ensures registered { (r : Registration) (s : State) → IsRegistration r → length r.holder ≡ 15 → IsUtf8 r.key → IsUtf8 r.name
-        → IsSound s → AreWithinLimits s → AreWithinLimits (register_step r.number r.holder r.key r.base r.name s).after }
+        → AreWithinLimits s → AreWithinLimits (register_step r.number r.holder r.key r.base r.name s).after }
     ensures imported { (caller : Option ℕ) (part : Part) (file : List ℕ) (content : Result Content CardFault) (s : State)
-        → FileTells part file content
-        → IsSound s → AreWithinLimits s → AreWithinLimits (import_step caller (part_number part) file content s).after }
+        → FileTells part file content → AreWithinLimits s
+        → AreWithinLimits (import_step caller (part_number part) file content s).after }
     ensures entered { (n : ℕ) (batch : List Entry) (s : State) → AllByRecursion IsEntry batch
-        → IsSound s → AreWithinLimits s → AreWithinLimits (enter_step n batch s).after }
-    ensures withdrawn { (n first last : ℕ) (s : State)
-        → IsSound s → AreWithinLimits s → AreWithinLimits (withdraw_range_step n first last s).after }
-    ensures rebased { (n base : ℕ) (s : State) → IsReadDay base
-        → IsSound s → AreWithinLimits s → AreWithinLimits (rebase_step n base s).after }
+        → AreWithinLimits s → AreWithinLimits (enter_step n batch s).after }
+    ensures withdrawn { (n first last : ℕ) (s : State) → AreWithinLimits s → AreWithinLimits (withdraw_range_step n first last s).after }
+    ensures rebased { (n base : ℕ) (s : State) → IsReadDay base → AreWithinLimits s → AreWithinLimits (rebase_step n base s).after }
     ensures rekeyed { (n : ℕ) (key : List ℕ) (s : State) → IsKey key → IsUtf8 key
-        → IsSound s → AreWithinLimits s → AreWithinLimits (rekey_step n key s).after }
+        → AreWithinLimits s → AreWithinLimits (rekey_step n key s).after }
     ensures renamed { (n : ℕ) (name : List ℕ) (s : State) → IsName name → IsUtf8 name
-        → IsSound s → AreWithinLimits s → AreWithinLimits (rename_step n name s).after }
-    ensures carried { (day : ℕ) (s : State) → day ≤ last_day → IsSound s → AreWithinLimits s → AreWithinLimits (carried day s) }
-    ensures ordered { (s t : State) → IsPermutation s t → IsSound s → AreWithinLimits s → AreWithinLimits t }
+        → AreWithinLimits s → AreWithinLimits (rename_step n name s).after }
+    ensures carried { (day : ℕ) (s : State) → day ≤ last_day → AreWithinLimits s → AreWithinLimits (carried day s) }
+    ensures ordered { (s t : State) → IsPermutation s t → AreWithinLimits s → AreWithinLimits t }
 {}
