@@ -33,8 +33,8 @@ pub enum ServeFault {
     /// The port is not available, or no more connections can be accepted.
     #[error("the port failed")]
     Device,
-    /// The archive's store has failed and was shut, or somebody else has changed, replaced or moved its files. Nothing can be answered until it is opened
-    /// again.
+    /// The archive's store has failed and was shut, or somebody else has changed, replaced or moved its files. Nothing can be answered
+    /// until it is opened again.
     #[error("the archive's store failed")]
     Store,
     /// Memory ran out before the first connection.
@@ -46,6 +46,9 @@ pub enum ServeFault {
 pub trait Place {
     /// Notes the archive's files as they are now.
     fn note(&mut self, rt: &HostRuntime);
+
+    /// Reports that a driver has the office's key, before the port is bound.
+    fn warn(&mut self, rt: &HostRuntime);
 
     /// Reports that the port is bound, before the first connection.
     fn begin(&mut self, rt: &HostRuntime);
@@ -59,8 +62,9 @@ fn listen(rt: &HostRuntime, port: u16) -> Result<TcpListener, ServeFault> {
     TcpListener::bind(rt, (Ipv4Addr::LOCALHOST, port)).map_err(|_| ServeFault::Device)
 }
 
-/// Binds a port of 127.0.0.1, accepts `count` connections there, and answers them one after the other, each within 30 seconds: requests for these page files, and
-/// those to the archive. A connection that sends nothing is closed, and delays no other. A fault of a connection ends only that connection.
+/// Binds a port of 127.0.0.1, accepts `count` connections there, and answers them one after the other, each within 30 seconds: requests for
+/// these page files, and those to the archive. A connection that sends nothing is closed, and delays no other. A fault of a connection ends
+/// only that connection.
 /// The place was noted before, and is noted after each answer: once it isn't as it was noted, no further connection is answered. A change
 /// during an answer isn't noticed. The archive changes by requests alone, under this key of the office.
 pub fn serve<K: Keeper, P: Place>(
