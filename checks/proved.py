@@ -54,6 +54,7 @@ TITLES = {
     "tacho_message": "requests and replies as bytes",
     "tacho_http": "requests to an archive",
     "tacho_serve": "a port, and its connections",
+    "tacho_jobs": "the program's jobs at a store",
     "tacho_cli": "commands",
 }
 

@@ -93,6 +93,7 @@ AUDITOR = Order(
         ("the program's arguments, and what it does without an archive and at one",
          "tacho_cli: Words Asked Office Files Listen Command Dump Card Holder Carried Version Fault"),
         ("what a service does to an archive", "tacho_serve: Served"),
+        ("what the program's jobs do at a store, what they write, and the program's status", "tacho_jobs: Jobs Ended"),
         ("the rest: streams, out of memory, and terms of spans and lines",
          "tacho_time: Device OrMemory Merge; tacho_line: Gains Join Walk Local"),
     ),

@@ -37,6 +37,7 @@ ENTRIES: dict[str, tuple[str, ...] | None] = {
     "tacho_http": None,
     "tacho_serve": None,
     "tacho_cli": None,
+    "tacho_jobs": None,
 }
 
 # Laws of these that are about what is in between: what each pass of a scan finds, and how the rows of one driver are judged.

@@ -33,9 +33,6 @@ pub const NOT_CARRIED: &str =
 pub const OFFICE_KEY: &str =
     "a driver has the office's key, and so all the rights of the office; give that driver another key";
 
-/// The bytes below which others may guess a driver's key.
-pub const SAFE_KEY: usize = 20;
-
 /// The sentence after a command that gave a driver a key which others may guess.
 pub const SHORT_KEY: &str =
     "others may guess a key of fewer than 20 characters; make one of 32 random letters and digits";

@@ -1,25 +1,24 @@
 //! The file of an archive, and the jobs that are done there.
 //!
-//! Functions on an archive are generic over its store, and take and return the connection by value. Only `open_file` and `at_file` name the
-//! file's store: there each call of a function that is generic over a store is proved again, which takes 15 to 50 times as long. The jobs
-//! aren't inlined, so that the stack holds the variables of one job alone.
+//! The jobs are those of `tacho_jobs`. A function on an archive is generic over its store, and takes and returns the connection by value. Only
+//! `open_file` and `at_file` name the file's store: there each call of a function that is generic over a store is proved again, which takes 15
+//! to 50 times as long.
 
 ghost use Rattle.std.specs.Prelude.{◌≡◌, false};
 
-use crate::advice::{LOST, NO_PORT, OFFICE_KEY, SAFE_KEY, SHORT_KEY, advice_on};
+use crate::advice::{LOST, NO_PORT, OFFICE_KEY, SHORT_KEY, advice_on};
 use sqlite::{Alter, Connection, Error, ErrorCode, File, FileStore};
 use std::alloc::Global;
 use std::fs;
 use std::io::IsTerminal;
-use tacho_check::{Unsound, check, check_text};
-use tacho_cli::{CardFiles, DeskJob, answer_at_desk, import_files, read_input, tell_answer};
-use tacho_desk::{Fault, Text, Want, part_of};
+use tacho_cli::{CardFiles, DeskJob, read_input};
+use tacho_desk::Fault;
 use tacho_disk::{NotOwned, Watched, cause_of, make_own, own_place};
 use tacho_http::PageFile;
+use tacho_jobs::{Ended, check_at, do_at, import_at, init_at, migrate_at, refuse, serve_at};
 use tacho_pages::page_files;
-use tacho_serve::{OfficeKey, Place, ServeFault, serve};
-use tacho_state::{Keeper, StoreFault};
-use tacho_store::Archive;
+use tacho_serve::{OfficeKey, Place};
+use tacho_state::StoreFault;
 use tacho_time::Device;
 
 /// A connection to a file.
@@ -58,152 +57,6 @@ pub enum Work<'a> {
     },
 }
 
-/// How a job ends. A line is printed once the file is closed.
-#[derive(Clone, Copy)]
-enum Ending {
-    /// The job was done. The line is still to be printed.
-    Done(&'static str),
-    /// What the job answered was printed, with this status. The fault, if there was one, was printed too.
-    Told(u8, Option<Fault>),
-    /// The job was refused. The line of the fault is still to be printed.
-    Refused(Fault),
-    /// A server can't have its port, or no connections there.
-    NoPort,
-    /// The store failed under a server, or somebody else has changed, replaced or moved its files.
-    Lost,
-}
-
-/// The ending of a job that the archive refused, or if the store failed or memory ran out.
-fn refused(fault: StoreFault) -> Ending {
-    Ending::Refused(Fault::from(fault))
-}
-
-/// Prints what is still to be printed of an ending, and returns the program's status: 3 if it can't be written.
-fn tell(rt: &HostRuntime, ending: &Ending) -> u8 {
-    let fault = match ending {
-        Ending::Done(line) => {
-            return match print!(rt; "{line}") {
-                Ok(()) => 0,
-                Err(_) => 3,
-            };
-        }
-        Ending::Told(status, _) => return *status,
-        Ending::Refused(fault) => *fault,
-        Ending::NoPort => Fault::Device,
-        Ending::Lost => Fault::from(StoreFault::Store),
-    };
-    tell_answer(&mut Device::new(rt.stdout()), &Err(fault))
-}
-
-/// `tacho init`: makes an archive without drivers.
-#[inline(never)]
-fn create_archive<S: Alter + Drop>(conn: Connection<S>) -> (Ending, Connection<S>)
-    requires { conn.in_transaction ≡ false }
-{
-    match Archive::create(conn) {
-        Ok(archive) => (Ending::Done("created\n"), archive.close()),
-        Err(refusal) => (refused(refusal.0), refusal.1),
-    }
-}
-
-/// `tacho migrate`: migrates an archive of schema 1 to schema 2.
-#[inline(never)]
-fn migrate_archive<S: Alter + Drop>(conn: Connection<S>) -> (Ending, Connection<S>)
-    requires { conn.in_transaction ≡ false }
-{
-    match Archive::migrate(conn) {
-        Ok(archive) => (Ending::Done("migrated\n"), archive.close()),
-        Err(refusal) => (refused(refusal.0), refusal.1),
-    }
-}
-
-/// `tacho check`: reads all rows of an archive of schema 2, and prints whether they represent a state. A check leaves no connection to close:
-/// it changes nothing, so there is nothing to write back.
-#[inline(never)]
-fn check_archive<S: Alter + Drop>(
-    rt: &HostRuntime,
-    conn: Connection<S>,
-) -> (Ending, Option<Connection<S>>)
-    requires { conn.in_transaction ≡ false }
-{
-    match Archive::adopt(conn) {
-        Ok(archive) => {
-            let (found, _store) = check(rt.alloc(), archive.close());
-            (found_ending(rt, found), None)
-        }
-        Err(refusal) => (refused(refusal.0), Some(refusal.1)),
-    }
-}
-
-/// Prints what a check has found, and returns the ending.
-fn found_ending(rt: &HostRuntime, found: Result<Option<Unsound>, StoreFault>) -> Ending {
-    match found {
-        Ok(found) => tell_found(rt, found),
-        Err(fault) => refused(fault),
-    }
-}
-
-/// Prints what a check has found, and returns the ending: status 1 if rows are unsound.
-fn tell_found(rt: &HostRuntime, found: Option<Unsound>) -> Ending {
-    let Ok(text) = check_text(rt.alloc(), found) else {
-        return refused(StoreFault::Memory);
-    };
-    match print!(rt; "{}", text.as_str()) {
-        Ok(()) => Ending::Told(u8::from(found.is_some()), None),
-        Err(_) => Ending::Told(3, None),
-    }
-}
-
-/// Does a job at an existing archive, with standard input and output.
-#[inline(never)]
-fn do_task<S: Alter + Drop>(
-    rt: &HostRuntime,
-    conn: Connection<S>,
-    job: DeskJob<'_>,
-) -> (Ending, Connection<S>)
-    requires { conn.in_transaction ≡ false }
-{
-    let mut archive = match Archive::adopt(conn) {
-        Ok(archive) => archive,
-        Err(refusal) => return (refused(refusal.0), refusal.1),
-    };
-    let mut reader = Device::new(rt.stdin());
-    let mut writer = Device::new(rt.stdout());
-    let answer = answer_at_desk(rt.alloc(), job, &mut archive, &mut reader);
-    let status = tell_answer(&mut writer, &answer);
-    if let Ok(text) = &answer {
-        advise_on_key(rt, &mut archive, job, text);
-    }
-    (Ending::Told(status, answer.err()), archive.close())
-}
-
-/// The number at the end of a line.
-fn last_number(line: &[u8]) -> Option<u32> {
-    let (_, number) = str::from_utf8(line).ok()?.trim_end().rsplit_once(' ')?;
-    number.parse().ok()
-}
-
-/// Writes a sentence for a person on standard error, if a command gave a driver a key which others may guess. What it printed ends with the
-/// driver's number.
-fn advise_on_key<S: Alter + Drop>(
-    rt: &HostRuntime,
-    archive: &mut Archive<S>,
-    job: DeskJob<'_>,
-    told: &Text,
-) {
-    if !matches!(job.wish.want, Want::Register | Want::Key) {
-        return;
-    }
-    let Some(driver) = last_number(told.bytes()) else {
-        return;
-    };
-    if let Ok(key) = archive.key(rt.alloc(), driver)
-        && key.len() < SAFE_KEY
-    {
-        let _ = eprint!(rt; "tacho: {}: {SHORT_KEY}\n", job.archive);
-    }
-}
-
 /// The card files of the file system.
 #[derive(Clone, Copy)]
 struct Cards<'a> {
@@ -221,33 +74,10 @@ impl CardFiles for Cards<'_> {
     }
 }
 
-/// `tacho import` with files: imports each at an existing archive.
-#[inline(never)]
-fn import_all<S: Alter + Drop>(
-    rt: &HostRuntime,
-    conn: Connection<S>,
-    part: &str,
-    names: &[String],
-) -> (Ending, Connection<S>)
-    requires { conn.in_transaction ≡ false }
-{
-    let mut archive = match Archive::adopt(conn) {
-        Ok(archive) => archive,
-        Err(refusal) => return (refused(refusal.0), refusal.1),
-    };
-    let cards = Cards { rt };
-    let mut writer = Device::new(rt.stdout());
-    let status = import_files(rt.alloc(), &mut archive, part, names, &cards, &mut writer);
-    let fault = match part_of(part.as_bytes()) {
-        Some(_) => None,
-        None => Some(Fault::Part),
-    };
-    (Ending::Told(status, fault), archive.close())
-}
-
-/// The files of an open archive, and the port on which page files are served, if they are.
+/// The files of an open archive at a path, and the port on which page files are served, if they are.
 #[derive(Drop)]
 struct Files<'a> {
+    path: &'a str,
     watched: Watched<'a>,
     page_port: Option<u16>,
 }
@@ -255,6 +85,10 @@ struct Files<'a> {
 impl Place for Files<'_> {
     fn note(&mut self, rt: &HostRuntime) {
         self.watched.note(rt);
+    }
+
+    fn warn(&mut self, rt: &HostRuntime) {
+        let _ = eprint!(rt; "tacho: {}: {OFFICE_KEY}\n", self.path);
     }
 
     fn begin(&mut self, rt: &HostRuntime) {
@@ -275,30 +109,8 @@ fn show_address(rt: &HostRuntime, port: u16) {
     }
 }
 
-/// Asks whether a driver has the office's key. Then `listen` is refused (S2), and `serve` goes on with a sentence for a person on standard
-/// error. Returns the ending of a service that doesn't begin.
-fn key_ending<K: Keeper>(
-    rt: &HostRuntime,
-    keeper: &mut K,
-    path: &str,
-    key: &OfficeKey<'_>,
-    listens: bool,
-) -> Option<Ending> {
-    match keeper.who(key.text().as_bytes()) {
-        Ok(None) => None,
-        Ok(Some(_)) if listens => Some(refused(StoreFault::KeyTaken)),
-        Ok(Some(_)) => {
-            let _ = eprint!(rt; "tacho: {path}: {OFFICE_KEY}\n");
-            None
-        }
-        Err(fault) => Some(refused(fault)),
-    }
-}
-
-/// `tacho serve`, and `tacho listen` with the page files: answers `count` connections on a port of 127.0.0.1, at an existing archive. Once its
-/// files are lost no connection is left to close, so that nothing is written to what is in their place.
-#[inline(never)]
-fn serve_requests<S: Alter + Drop>(
+/// Answers `count` connections on a port of 127.0.0.1, at the archive of a connection to the file with this path, which has no links.
+fn serve_files<S: Alter + Drop>(
     rt: &HostRuntime,
     conn: Connection<S>,
     path: &str,
@@ -306,29 +118,31 @@ fn serve_requests<S: Alter + Drop>(
     port: u16,
     count: u32,
     files: &[PageFile],
-) -> (Ending, Option<Connection<S>>)
+) -> (Ended, Option<Connection<S>>)
     requires { conn.in_transaction ≡ false }
 {
-    let mut archive = match Archive::adopt(conn) {
-        Ok(archive) => archive,
-        Err(refusal) => return (refused(refusal.0), Some(refusal.1)),
-    };
-    let listens = !files.is_empty();
-    if let Some(ending) = key_ending(rt, &mut archive, path, key, listens) {
-        return (ending, Some(archive.close()));
-    }
+    let mut writer = Device::new(rt.stdout());
     let Ok(watched) = Watched::new(rt, path) else {
-        return (refused(StoreFault::Memory), Some(archive.close()));
+        return (refuse(&mut writer, StoreFault::Memory), Some(conn));
     };
-    let page_port = if listens { Some(port) } else { None };
-    let mut place = Files { watched, page_port };
-    let ending = match serve(rt, &mut archive, &mut place, key, files, port, count) {
-        Ok(()) => Ending::Told(0, None),
-        Err(ServeFault::Device) => Ending::NoPort,
-        Err(ServeFault::Store) => return (Ending::Lost, None),
-        Err(ServeFault::Memory) => refused(StoreFault::Memory),
+    let page_port = if files.is_empty() { None } else { Some(port) };
+    let mut place = Files {
+        path,
+        watched,
+        page_port,
     };
-    (ending, Some(archive.close()))
+    serve_at(rt, conn, key, port, count, files, &mut place, &mut writer)
+}
+
+/// Checks the archive of a connection. A check leaves no connection to close: it changes nothing, so there is nothing to write back.
+fn check_file<S: Alter + Drop>(
+    rt: &HostRuntime,
+    conn: Connection<S>,
+) -> (Ended, Option<Connection<S>>)
+    requires { conn.in_transaction ≡ false }
+{
+    let (ended, _store) = check_at(rt.alloc(), conn, &mut Device::new(rt.stdout()));
+    (ended, None)
 }
 
 /// Does the work at the archive of a connection to the file with this path, which has no links. Returns the connection, unless the work was a
@@ -339,24 +153,28 @@ fn at_connection<S: Alter + Drop>(
     conn: Connection<S>,
     path: &str,
     work: Work<'_>,
-) -> (Ending, Option<Connection<S>>) {
+) -> (Ended, Option<Connection<S>>) {
+    let mut reader = Device::new(rt.stdin());
+    let mut writer = Device::new(rt.stdout());
     if !conn.is_autocommit() {
-        return (refused(StoreFault::Store), Some(conn));
+        return (refuse(&mut writer, StoreFault::Store), Some(conn));
     }
-    let (ending, conn) = match work {
-        Work::Check => return check_archive(rt, conn),
-        Work::Create => create_archive(conn),
-        Work::Migrate => migrate_archive(conn),
-        Work::Task(job) => do_task(rt, conn, job),
-        Work::Import { part, names } => import_all(rt, conn, part, names),
+    let (ended, conn) = match work {
+        Work::Check => return check_file(rt, conn),
+        Work::Create => init_at(conn, &mut writer),
+        Work::Migrate => migrate_at(conn, &mut writer),
+        Work::Task(job) => do_at(rt.alloc(), conn, job, &mut reader, &mut writer),
+        Work::Import { part, names } => {
+            import_at(rt.alloc(), conn, part, names, &Cards { rt }, &mut writer)
+        }
         Work::Serve { key, port, count } => {
-            return serve_requests(rt, conn, path, key, port, count, &[]);
+            return serve_files(rt, conn, path, key, port, count, &[]);
         }
         Work::Listen { key, port, count } => {
-            return serve_requests(rt, conn, path, key, port, count, &page_files());
+            return serve_files(rt, conn, path, key, port, count, &page_files());
         }
     };
-    (ending, Some(conn))
+    (ended, Some(conn))
 }
 
 /// The fault of files that aren't the user's.
@@ -404,36 +222,47 @@ pub(crate) fn announce(rt: &HostRuntime, path: &str) {
     }
 }
 
-/// Writes a sentence for a person on standard error, if a job failed.
-fn advise(rt: &HostRuntime, path: &str, work: Work<'_>, ending: &Ending) {
-    let sentence = match ending {
-        Ending::Done(_) | Ending::Told(_, None) => return,
-        Ending::NoPort => NO_PORT,
-        Ending::Lost => LOST,
-        Ending::Told(_, Some(Fault::Store(StoreFault::Store)))
-        | Ending::Refused(Fault::Store(StoreFault::Store)) => {
-            cause_of(rt, path, matches!(work, Work::Create))
-        }
-        Ending::Told(_, Some(fault)) | Ending::Refused(fault) => advice_on(*fault),
-    };
-    let _ = eprint!(rt; "tacho: {path}: {sentence}\n");
+/// The sentence for a person after a job that ended with a fault. `is_lost` says that the files were lost during service.
+fn sentence_of(
+    rt: &HostRuntime,
+    path: &str,
+    work: Work<'_>,
+    fault: Fault,
+    is_lost: bool,
+) -> &'static str {
+    let serves = matches!(work, Work::Serve { .. } | Work::Listen { .. });
+    match fault {
+        Fault::Device if serves => NO_PORT,
+        Fault::Store(StoreFault::Store) if serves && is_lost => LOST,
+        Fault::Store(StoreFault::Store) => cause_of(rt, path, matches!(work, Work::Create)),
+        fault => advice_on(fault),
+    }
+}
+
+/// Writes a sentence for a person on standard error, if a job failed, or if it gave a driver a key that others may guess.
+fn advise(rt: &HostRuntime, path: &str, work: Work<'_>, ended: &Ended, is_lost: bool) {
+    if let Some(fault) = ended.fault {
+        let sentence = sentence_of(rt, path, work, fault, is_lost);
+        let _ = eprint!(rt; "tacho: {path}: {sentence}\n");
+    } else if ended.has_short_key {
+        let _ = eprint!(rt; "tacho: {path}: {SHORT_KEY}\n");
+    }
 }
 
 /// Does the work at the archive in a file, and returns the program's status. What was done is durable, even if the file's log can't be written
 /// back to the file at close: the next open does that. After a fault standard error gets a sentence for a person.
 pub fn at_file(rt: &HostRuntime, path: &str, work: Work<'_>) -> u8 {
     announce(rt, path);
-    let ending = match open_file(rt, path, work) {
-        Ok((place, conn)) => {
-            let (ending, conn) = at_connection(rt, conn, &place, work);
-            if let Some(conn) = conn {
+    let (ended, is_lost) = match open_file(rt, path, work) {
+        Ok((place, conn)) => match at_connection(rt, conn, &place, work) {
+            (ended, Some(conn)) => {
                 let _ = conn.close();
+                (ended, false)
             }
-            ending
-        }
-        Err(fault) => refused(fault),
+            (ended, None) => (ended, true),
+        },
+        Err(fault) => (refuse(&mut Device::new(rt.stdout()), fault), false),
     };
-    let status = tell(rt, &ending);
-    advise(rt, path, work, &ending);
-    status
+    advise(rt, path, work, &ended, is_lost);
+    ended.status
 }
