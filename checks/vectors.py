@@ -35,7 +35,7 @@ MAKERS: dict[str, Callable[[], list[Made]]] = {
 LARGEST = 5_000_000  # bytes of the folder
 LONGEST_LINE = 32_768  # bytes
 SECONDS = 30  # within which a server has to answer
-LONGEST_WHY = 260
+LONGEST_WHY = 270
 TAGGED, TRIED, RUN = 60, 15, 40  # each 60th case has its tags found anew, each 15th change is tried, each 40th case is run by run.py
 CHANGES = os.path.join(vector_sets.FOLDER, "changes.jsonl")
 IDS = os.path.join(vector_sets.FOLDER, "ids.json")
@@ -179,7 +179,7 @@ def write_counts() -> None:
 
 def key_of(line: dict[str, Any]) -> tuple[Any, ...]:
     """What shows a change in its line."""
-    return tuple(line[key] for key in CHANGE_KEYS)
+    return tuple({"turn": 0, **line}[key] for key in CHANGE_KEYS)
 
 
 def write_written(names: Iterable[str], before: dict[tuple[Any, ...], list[str]]) -> list[dict[str, Any]]:
@@ -350,6 +350,9 @@ def of_set(name: str, tagged: int) -> counting.Comparisons:
     yield f"{name}: the ids", list(lines), [identifier for identifier, _ in made]
     yield f"{name}: the ids that were given", ids_in()[name], ids_of(name)
     yield f"{name}: the number of lines", len(vector_sets.lines_in(vector_sets.path_of(name))), len(made)
+    tags = {f"{name}/{identifier}": sorted(case["tags"]) for identifier, (case, _) in lines.items() if case["tags"]}
+    answered = {one: sorted(answers) for one, answers in kept.items() if one.startswith(f"{name}/")}
+    yield f"{name}: the tags, and those that have the answer of the other choice", answered, tags
     for identifier, one in made:
         if identifier not in lines:
             continue
@@ -543,6 +546,7 @@ def of_wrong_lines() -> counting.Comparisons:
         ("fraction", "another answer"), ("id", "isn't an answer"), ("twice", "isn't an answer"), ("text", "isn't JSON"),
         ("silent", "no line within 2 seconds"), ("ended", "the program has ended"), ("key", "another answer"),
         ("missing", "another answer"), ("after", "prints more"), ("open", "doesn't end"), ("status", "the status 3"),
+        ("again", "a key is there twice"), ("swapped", "no line within 2 seconds"), ("crash", "RuntimeError: the second line"),
     ):
         failures = failures_of(run.Lines, [*LINES, kind], ["timelines/B1-001", "timelines/B1-002"], 2)
         yield f"lines that are wrong: {kind}", why in failures, True

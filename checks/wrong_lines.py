@@ -1,9 +1,10 @@
 #!/usr/bin/env python3
 """A program that answers lines by the slow programs, wrong on purpose, to try `vectors/run.py --lines`.
 
-The argument is how it is wrong: `right`; an answer with a `fraction`, without a key (`missing`) or with another one (`key`); the wrong
-`id`; a line `twice`; a `text` that isn't JSON; `silent`; `ended` after a line; a line `after` the last; `open` at the end of its input; a
-`status`; an `error` beside a wrong answer; or `otherwise TAG`, which makes a choice otherwise."""
+The argument is how it is wrong: `right`; an answer with a `fraction`, without a key (`missing`), with another one (`key`), or with one
+that comes `again`; the wrong `id`; a line `twice`; two lines `swapped`; a `text` that isn't JSON; `silent`; `ended` after a line; a
+`crash` at the second line; a line `after` the last; `open` at the end of its input; a `status`; an `error` beside a wrong answer; or
+`otherwise TAG`, which makes a choice otherwise."""
 import json
 import sys
 import time
@@ -42,15 +43,21 @@ def lines_of(kind: str, case: dict[str, Any]) -> list[str]:
         slow = other_choices.reading_of(kind.removeprefix("otherwise "))
     answer = changed(kind, vector_sets.ANSWERS[case["set"]](slow, case["input"]))
     line = json.dumps({"id": case["id"] + "0" * (kind == "id"), "expected": answer})
-    return {"text": ["an answer"], "twice": [line, line], "silent": []}.get(kind, [line])
+    again = line[:-1] + ', "expected": {}}'
+    return {"text": ["an answer"], "twice": [line, line], "silent": [], "again": [again]}.get(kind, [line])
 
 
 def main() -> int:
     """Answers each line, and returns the status."""
     _, kind = sys.argv
-    for line in sys.stdin:
-        for told in lines_of(kind, json.loads(line)):
-            print(told, flush=True)
+    before: list[str] = []  # the lines that wait for the next one, which is told first
+    for number, line in enumerate(sys.stdin, 1):
+        if kind == "crash" and number == 2:
+            raise RuntimeError("the second line")
+        told = lines_of(kind, json.loads(line))
+        before, told = (told, []) if kind == "swapped" and number % 2 else ([], told + before)
+        for one in told:
+            print(one, flush=True)
         if kind == "ended":
             return 0
     if kind == "after":

@@ -60,6 +60,7 @@ ACTIVITIES = ["rest", "available", "work", "drive"]
 OFFICE_KEY = "office-key-1"
 HOST = "127.0.0.1"
 LAST = 2_000  # bytes of standard error that a failure shows
+LONGEST = 2**24  # bytes of a line that are read: no answer has as many
 
 Answer = Any  # what is expected of a case
 Given = dict[str, Any]  # what a case gives
@@ -410,6 +411,7 @@ class Program:
         self.seconds = seconds
         self.count = 0
         self.path = ""
+        self.error = b""  # what the last server has printed on standard error
         self.renew()
 
     def renew(self) -> None:
@@ -425,7 +427,7 @@ class Program:
                 told, error = process.communicate(given, self.seconds)
             except subprocess.TimeoutExpired as late:
                 stop(process)
-                raise Failure(f"'{words[0]}' takes more than {self.seconds:g} seconds") from late
+                raise Failure(f"'{words[0]}' takes more than {self.seconds:g} seconds{error_text(late.stderr or b'')}") from late
             except BaseException:
                 stop(process)
                 raise
@@ -463,8 +465,9 @@ class Program:
             finally:
                 stop(process)
             error.seek(0)
+            self.error = error.read()
             if status:
-                raise Failure(f"'serve' has the status {status}{error_text(error.read())}")
+                raise Failure(f"'serve' has the status {status}{error_text(self.error)}")
         return replies
 
     def connected(self, process: subprocess.Popen[bytes], port: int) -> socket.socket:
@@ -499,7 +502,7 @@ class Program:
         try:
             if name == "http":
                 replies = self.serve([bytes_of(pieces) for pieces in given["requests"]])
-                compare_replies(replies, [bytes_of(pieces) for pieces in expected["replies"]])
+                compare_replies(replies, [bytes_of(pieces) for pieces in expected["replies"]], error_text(self.error))
                 return
             if given.get("of") == "driver":
                 self.renew()
@@ -515,14 +518,14 @@ class Program:
         """Nothing runs."""
 
 
-def compare_replies(found: list[bytes], wanted: list[bytes]) -> None:
-    """Fails if replies aren't those that are expected."""
+def compare_replies(found: list[bytes], wanted: list[bytes], error: str) -> None:
+    """Fails if replies aren't those that are expected; the failure has the text of an error."""
     for number, (reply, other) in enumerate(zip(found, wanted), 1):
         if reply != other:
             texts = [text.decode(errors="backslashreplace").replace("\r", "\\r") for text in (reply, other)]
-            raise Failure(f"reply {number} differs: {first_difference(*texts)}")
+            raise Failure(f"reply {number} differs: {first_difference(*texts)}{error}")
     if len(found) != len(wanted):
-        raise Failure(f"there are {len(found)} replies, and {len(wanted)} are expected")
+        raise Failure(f"there are {len(found)} replies, and {len(wanted)} are expected{error}")
 
 
 # A program that answers lines
@@ -570,7 +573,7 @@ class Lines:
         finally:
             late.cancel()
         if not told.endswith(b"\n"):
-            raise Failure("the program has ended without a line" if not told else "the program has ended within a line")
+            raise Failure("the program has ended without a line" if not told else "the program has ended within a line, or it is too long")
         return told
 
     def try_case(self, name: str, number: int, case: Case, rules: list[str]) -> None:
@@ -579,9 +582,9 @@ class Lines:
         try:
             told = self.answer(json.dumps(question, separators=(",", ":")).encode() + b"\n")
             try:
-                found = json.loads(told)
+                found = json.loads(told.decode(), object_pairs_hook=without_twice)
             except ValueError as fault:
-                raise Failure(f"the line isn't JSON: {told[:200]!r}") from fault
+                raise Failure(f"the line isn't JSON ({fault}): {told[:200]!r}") from fault
             if not isinstance(found, dict) or found.get("id") != case["id"] or set(found) != {"id", "expected"}:
                 raise Failure(f"the line isn't an answer to {case['id']}: {told[:200]!r}")
         except Failure as failure:
@@ -608,14 +611,26 @@ class Lines:
             raise Failure("the program doesn't end at the end of its input") from fault
         finally:
             stop(self.process)
-        if status or self.told.get(timeout=self.seconds):
+        try:
+            more = self.told.get(timeout=self.seconds)
+        except queue.Empty as fault:
+            raise Failure("what the program prints doesn't end with it") from fault
+        if status or more:
             raise Failure(f"after the last line the program prints more, or has the status {status}{self.error()}")
+
+
+def without_twice(pairs: list[tuple[str, Any]]) -> dict[str, Any]:
+    """The object of some pairs, of which no two have one key: a ValueError."""
+    found = dict(pairs)
+    if len(found) < len(pairs):
+        raise ValueError("a key is there twice")
+    return found
 
 
 def read_lines(process: subprocess.Popen[bytes], told: queue.SimpleQueue[bytes]) -> None:
     """Reads the lines of a process, and at its end an empty one."""
     assert process.stdout  # since it is a pipe
-    while line := process.stdout.readline():
+    while line := process.stdout.readline(LONGEST):
         told.put(line)
     told.put(b"")
 

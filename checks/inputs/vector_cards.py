@@ -192,9 +192,13 @@ def lengths() -> Iterator[Made]:
         shorter = record(DAY + 1, [word(0, 0, REST, 60 * turn) for turn in range(words_left)])
         value = activity_data([FIRST, shorter], 5, 3)
         yield made("lengths", CHAIN, f"the newest record has the length {12 + 2 * words_left}, of {words_left} words", "read", value)
-    for previous in (0, 12, 65_535):
+    for previous in (0, 1, 11, 12, 65_535):
         value = changed(activity_data([FIRST, SECOND], 0, 0), len(FIRST), previous)
         yield made("lengths", CHAIN, f"the previous record's length is given as {previous}, and isn't read", "read", value)
+    for previous in (1, len(SECOND), 65_535):
+        value = changed(activity_data([FIRST, SECOND], 0, 0), 0, previous)
+        yield made("lengths", CHAIN, f"the oldest record gives {previous} as the length of the one before it, which isn't read", "read",
+                   value)
     for place, name in ((8, "presence counter"), (10, "distance")):
         value = changed(activity_data([FIRST, SECOND], 0, 0), place, 0xFFFF)
         yield made("lengths", CHAIN, f"the {name} is FFFF, and isn't read", "read", value)
@@ -251,6 +255,14 @@ def pointers() -> Iterator[Made]:
                "fault C8", value)
     value = struct.pack(">HH", 0, 0) + FIRST[:2] + bytes(2) + FIRST[4:]
     yield made("pointers", CHAIN, "both pointers are equal, and the length there is 0, before a date that isn't: no records", "read", value)
+    for length in (1, 2, 10, 11):
+        value = struct.pack(">HH", 0, 0) + FIRST[:2] + struct.pack(">H", length) + FIRST[4:]
+        yield made("pointers", "C9", f"both pointers are equal, and the length there is {length}: a record, since it isn't 0, and below 12",
+                   "fault C9", value)
+    for previous, date in ((len(FIRST), bytes(4)), (65_535, FIRST[4:8])):
+        value = struct.pack(">HHHH", 0, 0, previous, 0) + date + bytes(20)
+        yield made("pointers", CHAIN, f"the pointers are equal, and the length there is 0, after a previous one of {previous}: no records",
+                   "read", value)
     long = record(0, [0] * 122)
     yield made("pointers", "C11", f"both pointers are equal, and the length there is {len(long)}, before a date of 0", "fault C11",
                struct.pack(">HH", 0, 0) + long)
@@ -304,6 +316,11 @@ def sequences() -> Iterator[Made]:
     yield made("sequence", CHAIN, "three records without words give nothing", "read", value)
     value = activity_data([night, record(DAY + 3, [word(0, 0, DRIVE, 100)])], 0, 0)
     yield made("sequence", CHAIN, "the last word of the oldest record holds to midnight, that of the newest gives nothing", "read", value)
+    for earlier in (1, 5):
+        later = day_of_work(DAY + earlier, (REST, 0), (DRIVE, 480))
+        value = activity_data([later, day_of_work(DAY, (REST, 0), (WORK, 480))], 0, 0)
+        what = f"the newest record is {earlier} day{'s' * (earlier > 1)} before the oldest, and the pointer decides"
+        yield made("sequence", CHAIN, what, "read", value)
     for count in (121, 122):
         many = record(DAY, [word(0, 0, turn % 2, 2 * turn) for turn in range(count)])
         value = activity_data([many, end], 0, 0)
@@ -428,6 +445,19 @@ def large_buffers() -> Iterator[Made]:
         yield made("large", CHAIN, f"two records lie over the end of a buffer of {size} bytes", "read", value)
 
 
+def many_records() -> Iterator[Made]:
+    """Chains of many records, and lengths whose sum has more than 15 or 16 bits."""
+    for count in (17, 33, 66):
+        last = (0, count - 2, count - 1)
+        value = activity_data([record(DAY + turn, [word(0, 0, REST, 0)] * (turn in last)) for turn in range(count)], 100, 5)
+        yield made("many-records", CHAIN, f"{count} records, of which the first and the last two have a word", "read", value)
+    for size, first, second in ((65_531, 40_000, 25_600), (40_000, 30_000, 10_002)):
+        heads = [struct.pack(">HHIHH", 0, length, 86_400 * (DAY + turn), 0, 0) for turn, length in enumerate((first, second))]
+        value = struct.pack(">HH", 0, first) + heads[0] + bytes(first - 12) + heads[1] + bytes(size - first - 12)
+        what = f"two records of {first} and {second} bytes have more together than the buffer of {size}"
+        yield made("many-records", "C10", what, "fault C10", value)
+
+
 def many_words() -> Iterator[Made]:
     """Records of many words."""
     end = record(DAY + 1, [word(0, 0, REST, 0)])
@@ -445,7 +475,8 @@ def many_words() -> Iterator[Made]:
 
 def chains() -> list[Made]:
     """All cases of chains."""
-    makers = [wrapped, lengths, broken, pointers, days, sequences, contradictions, first_faults, after_the_end, large_buffers, many_words]
+    makers = [wrapped, lengths, broken, pointers, days, sequences, contradictions, first_faults, after_the_end, large_buffers, many_words,
+              many_records]
     return [one for maker in makers for one in maker()]
 
 
@@ -492,6 +523,13 @@ def generations() -> Iterator[Made]:
         yield made_file("generations", rule, f"a file of {name}, of which the part '{part}' is read", claim, part, *blocks)
     for part in PARTS:
         yield made_file("generations", "C6", f"a file without activity data, part '{part}'", "fault C6", part, identified(0), identified(2))
+    for kind in (4, 6, 0x80):
+        yield made_file("generations", FILE, f"blocks of kind {kind:02x} with wrong data aren't read", "read", "both", identified(0),
+                        active(0), block(IDENTIFICATION, kind, b""), active(kind, bytes(15)))
+    for more in (-0x0500, 0x0100, 0x8000):
+        others = [block(identifier + more, 0, b"") for identifier in (IDENTIFICATION, ACTIVITY)]
+        yield made_file("generations", FILE, f"blocks {IDENTIFICATION + more:04x} and {ACTIVITY + more:04x} aren't read", "read", "both",
+                        *others, identified(0), active(0))
     yield made_file("generations", FILE, "the identification is of one generation and the activity data of the other", "read", "second",
                     identified(0), active(2))
     yield made_file("generations", "C6", "the only activity data has the kind 01 of a signature", "fault C6", "both", identified(0),
@@ -530,6 +568,10 @@ def repeated() -> Iterator[Made]:
                         + ("" if is_read else ", and isn't read"), "fault C2" if is_read else "read", "both", *blocks)
     yield made_file("repeated", FILE, "blocks of another elementary file with the kinds 00 and 02 repeat", "read", "both", identified(0),
                     active(0), *[block(0x0524, kind, b"\x01") for kind in (0, 0, 2, 2)])
+    for identifier in (0x0505, 0x051F):
+        others = [block(identifier, kind, b"\x01") for kind in (0, 2, 0, 2)]
+        yield made_file("repeated", FILE, f"blocks {identifier:04x} 00 and {identifier:04x} 02 are there twice, and aren't read", "read",
+                        "both", *others, identified(0), active(0))
     for order in (["a", "i"], ["i", "a"]):
         again = [active(0) if letter == "a" else identified(0) for letter in order]
         yield made_file("repeated", "C2", "both blocks are there twice: the first that repeats is named", "fault C2", "both", identified(0),
@@ -559,6 +601,8 @@ def holders() -> Iterator[Made]:
         text = "which is part of the holder" if place < 15 else "an index of replacement or renewal, which isn't"
         yield made_file("holder", "C5" if place < 15 else FILE, f"the two generations differ in byte {place} of the card number, {text}",
                         claim, "both", identified(0), block(IDENTIFICATION, 2, bytes(other)), active(0))
+    yield made_file("holder", "C5", "the two generations differ in whether a letter of the card number is a capital", "fault C5", "both",
+                    identified(0), identified(2, HOLDER.lower()), active(0))
     yield made_file("holder", "C4", "an identification is too short, and the two name different holders: C4 comes before C5", "fault C4",
                     "both", identified(0), block(IDENTIFICATION, 2, b"\x0eD1234567890123"), active(0))
     yield made_file("holder", "C5", "two cards and no activity data: C5 comes before C6", "fault C5", "both", identified(0),
@@ -602,6 +646,29 @@ def faults_by_generation() -> Iterator[Made]:
                         f"fault {first}", "both", identified(0), active(0, bad[one]), active(2, bad[other]))
 
 
+ITSELF = activity_data([FIRST, OTHER_FIRST, SECOND], 0, 0)  # contradicts itself at 07:59
+
+
+def contradicting_generations() -> Iterator[Made]:
+    """Contradictions within a generation, and between both, beside other faults: the least minute of all is named, after all records."""
+    for code, value in BAD.items():
+        yield made_file("contradicting", code, f"kind 00 contradicts itself, and kind 02 has {code}: C14 comes last", f"fault {code}",
+                        "both", identified(0), active(0, ITSELF), active(2, value))
+    for part, code in (("first", "C14"), ("second", "C12"), ("both", "C12")):
+        yield made_file("contradicting", code, f"kind 00 contradicts itself, kind 02 has C12, and the part '{part}' is read",
+                        f"fault {code}", part, identified(0), active(0, ITSELF), active(2, BAD["C12"]))
+    later = day_of_work(DAY + 1, (DRIVE, 0), (REST, 1300))
+    both_days = activity_data([later, OTHER_FIRST, record(DAY + 9, [])], 0, 0)
+    plain = activity_data([FIRST, SECOND, record(DAY + 9, [])], 0, 0)
+    for one, other, which in ((plain, both_days, "kind 02"), (both_days, plain, "kind 00")):
+        yield made_file("contradicting", "C14", f"two days contradict between the kinds, the later one first in the records of {which}",
+                        "fault C14", "both", identified(0), active(0, one), active(2, other))
+    twice = activity_data([FIRST, SECOND, later, record(DAY + 9, [])], 0, 0)
+    for one, other, which in ((twice, OTHER, "kind 00"), (OTHER, twice, "kind 02")):
+        yield made_file("contradicting", "C14", f"{which} contradicts itself on the second day, and the other kind on the first: the least "
+                        f"minute is named", "fault C14", "both", identified(0), active(0, one), active(2, other))
+
+
 def second_kind_first() -> Iterator[Made]:
     """Kind 02 before kind 00 in the file, and a fault in both."""
     for one, other in (*itertools.pairwise(BAD), *itertools.pairwise(reversed(BAD)), ("C7", "C13"), ("C13", "C8")):
@@ -621,6 +688,12 @@ def lengths_of_blocks() -> Iterator[Made]:
     for identifier, kind in ((ACTIVITY, 1), (IDENTIFICATION, 3), (0x0501, 0), (0, 0), (0xFFFF, 0xFF)):
         yield made_file("block", FILE, f"the file's last block, {identifier:04x} {kind:02x}, has the length 0", "read", "both", *whole,
                         block(identifier, kind, b""))
+    empty = block(0, 0, b"")
+    for blocks, where in (([empty, *whole], "first"), ([whole[0], empty, whole[1]], "between two others"),
+                          ([*whole, empty, active(2, bytes(15))], "before data that are too short")):
+        code = "C7" if "short" in where else FILE
+        yield made_file("block", code, f"a block 0000 00 without a value comes {where}", "fault C7" if code == "C7" else "read", "both",
+                        *blocks)
     yield made_file("block", "C4", "the file's last block is an identification of kind 02 without a value", "fault C4", "both", *whole,
                     block(IDENTIFICATION, 2, b""))
     yield made_file("block", "C7", "the file's last block is activity data of kind 02 without a value", "fault C7", "both", *whole,
@@ -641,5 +714,6 @@ def lengths_of_blocks() -> Iterator[Made]:
 
 def card_files() -> list[Made]:
     """All cases of card files."""
-    makers = [generations, truncated, repeated, holders, faults_by_generation, second_kind_first, lengths_of_blocks]
+    makers = [generations, truncated, repeated, holders, faults_by_generation, contradicting_generations, second_kind_first,
+              lengths_of_blocks]
     return [one for maker in makers for one in maker()]

@@ -84,8 +84,8 @@ def limits() -> Iterator[Made]:
         (431, "8,192 bytes of a value without an end", padded(8_192, b"")),
         (400, "8,191 bytes of a value without an end", padded(8_191, b"")),
         (400, "byte 0 in byte 8,192", padded(8_192, b"\0")), (431, "byte 0 in byte 8,193", padded(8_193, b"\0")),
-        (431, "8,192 bytes of empty lines", 4_096 * b"\r\n"),
-        (200, "8,000 bytes of empty lines before a head", 4_000 * b"\r\n" + OWN),
+        (431, "8,192 bytes of empty lines", 8_192 * b"\n"),
+        (200, "8,000 bytes of empty lines before a head", 8_000 * b"\n" + OWN),
         (431, "8,192 bytes of a path", b"GET /" + 8_187 * b"a"),
         (400, "8,191 bytes of a path", b"GET /" + 8_186 * b"a"), (200, "32 fields", fields(32) + b"\r\n"),
         (431, "33 fields", fields(33) + b"\r\n"), (431, "34 fields and more bytes", fields(34) + b"\r\n\0"),
@@ -510,6 +510,50 @@ def versions() -> Iterator[Made]:
         yield made("version", 400, f"the version HTTP/{version}", [*WITH_DAY, OWN.replace(b"HTTP/1.1", f"HTTP/{version}".encode())])
 
 
+UNREAD = ("host: a", "Host: b", "expect: 100-continue", "upgrade: h2c", "connection: upgrade, keep-alive", "range: bytes=0-1",
+          "if-none-match: *", "accept: image/png", "accept-encoding: gzip", "cookie: x-key=1", "x-http-method-override: DELETE",
+          "content-encoding: gzip", "content-type: application/json", "te: trailers", "x-forwarded-for: 10.0.0.1", "empty:")
+
+
+def strict_heads() -> Iterator[Made]:
+    """What other servers read, skip or refuse."""
+    yield made("strict", 200, f"{len(UNREAD)} fields that aren't read, of a GET", [asking("GET /drivers", OFFICE, *UNREAD)])
+    yield made("strict", 201, f"{len(UNREAD)} fields that aren't read, of a POST",
+               [asking("POST /drivers", OFFICE, *UNREAD, f"{LENGTH}{len(BERT)}", body=BERT)])
+    for path in ("/drivers/17/owed#all", "/drivers/./17/owed", "drivers", "\\drivers", "http://localhost/drivers", "/me/../drivers"):
+        yield made("strict", 404, f"the path '{path}' isn't one", [asking(f"GET {path}", OFFICE)])
+    yield made("strict", 400, "a blank within a path", [asking("GET /drivers/ 17/owed", OFFICE)])
+    for number in ("+17", "17a", "\u0661\u0667", "1\u0667"):
+        yield made("strict", 400, f"the driver's number '{number}' (N1)", [asking(f"GET /drivers/{number}/owed", OFFICE)])
+    for month in ("2024-\u0660\u0663", "202403"):
+        yield made("strict", 400, f"the month '{month}' (Z1)", [asking(f"GET /drivers/17/gaps/{month}", OFFICE)])
+    for date in ("2024-03-0\u0664", "2024-W10-1"):
+        yield made("strict", 400, f"the day '{date}' (Z1)", [asking(f"POST /drivers/17/base/{date}", OFFICE)])
+    yield made("strict", 400, "a time with a digit of another alphabet (Z1)", [asking("GET /forecast/2024-03-04/0\u0664:00", OFFICE)])
+    for old, new, what in (
+        (b"x-key: anna-key-1\r\n", b"x-key: anna-key-1\r\n more\r\n", "a field's line that goes on in the next"),
+        (b"HTTP/1.1", b"http/1.1", "the version in small letters"), (b" HTTP/1.1", b"  HTTP/1.1", "two blanks before the version"),
+        (b"GET ", b"GET\t", "a tab after the method"), (b" HTTP/1.1", b"\tHTTP/1.1", "a tab before the version"),
+    ):
+        yield made("strict", 400, what, [OWN.replace(old, new)])
+    own = "GET /me/owed"
+    for request, what in (
+        (asking(own, DRIVER.upper()), "a driver's key in capitals"),
+        (asking(own, None, f"authorization: Bearer {DRIVER}"), "a driver's key in the field authorization"),
+        (asking("GET /version", DRIVER), "a driver may not GET '/version'"),
+        (asking("GET /me/version", OFFICE), "the office may not GET '/me/version'"),
+        (asking("GET /me/driver", OFFICE), "the office may not GET '/me/driver'"),
+    ):
+        yield made("strict", 403, what, [ADD_ANNA, request])
+    size = len(BERT)
+    for length, status in ((f"{size // 10} {size % 10}", 400), (f"{size},{size}", 400), (f"{2**32 + size}", 413), (f"{2**31 + size}", 413)):
+        yield made("strict", status, f"the length '{length}'", [asking("POST /drivers", OFFICE, LENGTH + length, body=BERT)])
+    row = b"2024-03-04 00:00,2024-03-05 00:00,rest\n"
+    thousand = HOURS_HEAD + b"\n" * (1_000 - len(HOURS_HEAD + row)) + row
+    yield made("strict", 201, "the length '01000' is a thousand",
+               [ADD_ANNA, asking("POST /drivers/17/entries", OFFICE, f"{LENGTH}01000", body=thousand)])
+
+
 def body_first() -> Iterator[Made]:
     """What is wrong with the length of a body, beside what is wrong with an argument in the path."""
     for path in ("/drivers/017/entries", "/drivers/0/key", "/drivers/1000000/name", "/cards/whole"):
@@ -533,6 +577,8 @@ def dates() -> Iterator[Made]:
         yield made("date", 400, f"the form as far as {date} ({what})", [ADD_ANNA, asking(f"GET /me/form/{date}", DRIVER)])
     for minute in ("2100-02-30/12:00", "2100-01-01/24:00", "1999-12-31/23:60"):
         yield made("date", 400, f"a forecast from {minute} on (Z2, before Z3)", [ADD_ANNA, asking(f"GET /me/ahead/{minute}", DRIVER)])
+    for day in ("2024-03-03", "2024-03-09", "2024-03-10"):
+        yield made("date", 422, f"the base {day}, which isn't a Monday (S9)", [ADD_ANNA, asking(f"POST /drivers/17/base/{day}", OFFICE)])
     for month, what in (("2100-13", "Z2"), ("1999-00", "Z2"), ("2100-01", "Z3"), ("1999-12", "Z3")):
         yield made("date", 400, f"the gaps of {month} ({what})", [ADD_ANNA, asking(f"GET /me/gaps/{month}", DRIVER)])
     at_end = [ADD_ANNA, posting("/drivers/17/entries", OFFICE, HOURS_HEAD + b"2099-12-01 00:00,2099-12-31 23:59,rest\n")]
@@ -620,6 +666,15 @@ def held_minutes() -> Iterator[Made]:
                 posting("/me/cards/first", DRIVER, card_of((MONDAY, day), (MONDAY + 1, day)))])
     yield made("held", 201, "another card file with one minute more is added",
                [ADD_ANNA, part, posting("/cards/both", OFFICE, card_of((MONDAY, [random_cards.word(0, 0, 0, 299)])))])
+    other_day, crew_day = ([random_cards.word(0, crew, 2 - 2 * crew, 0)] for crew in (0, 1))
+    for words_of, what in ((other_day, "in all its minutes"), (crew_day, "in the driving status alone"),
+                           ([random_cards.word(0, 0, 0, 0), random_cards.word(0, 0, 2, 1439)], "in its last minute")):
+        yield made("held", 409, f"a card file contradicts another one {what} (S6)",
+                   [ADD_ANNA, whole, posting("/cards/both", OFFICE, card_of((MONDAY, words_of)))])
+    yield made("held", 409, "entered hours contradict a card file in the driving status alone (S6)",
+               [ADD_ANNA, posting("/cards/both", OFFICE, card_of((MONDAY, crew_day))), hours_of("2024-03-04 06:00,2024-03-04 07:00,rest")])
+    yield made("held", 409, "two rows contradict entered hours (S6): the least minute of both is named",
+               [ADD_ANNA, rest, hours_of("2024-03-04 06:00,2024-03-04 07:00,work", "2024-03-04 08:00,2024-03-04 09:00,work")])
     empty = posting("/cards/both", OFFICE, NOTHING)
     yield made("held", 200, "a card file without records is repeated, though it is the first", [ADD_ANNA, empty])
     yield made("held", 200, "a card file without records isn't listed", [ADD_ANNA, empty, asking("GET /me/files", DRIVER)])
@@ -661,6 +716,10 @@ def reports() -> Iterator[Made]:
         for what in ("spans", "gaps"):
             yield made("report", 200, f"'{what}' of {month}, cut at the month's ends, of rest from February to April",
                        [*months, asking(f"GET /me/{what}/{month}", DRIVER)])
+    again = hours_of("2024-03-04 00:00,2024-03-05 00:00,work")
+    yield made("held", 201, "after an entry was withdrawn others are entered in its place, and get the next number",
+               [ADD_ANNA, hours_of("2024-03-04 00:00,2024-03-05 00:00,rest"),
+                asking("POST /drivers/17/withdraw/1", OFFICE, f"{LENGTH}0"), again])
     two = [ADD_ANNA, hours_of("2024-03-04 00:00,2024-03-05 00:00,rest", "2024-03-05 00:00,2024-03-06 00:00,rest")]
     for number in (1, 2):
         gone = asking(f"POST /drivers/17/withdraw/{number}", OFFICE, f"{LENGTH}0")
@@ -673,6 +732,6 @@ def requests() -> list[Made]:
     """All cases of requests."""
     makers = (
         heads, limits, keys, paths, bodies, arguments, refusals, done, single_bytes, forecasts, of_all_drivers, ranges, names, forms,
-        handovers, versions, body_first, dates, registrations, held_minutes, reports,
+        handovers, versions, strict_heads, body_first, dates, registrations, held_minutes, reports,
     )
     return [one for maker in makers for one in maker()]

@@ -358,8 +358,83 @@ def key_letters() -> Iterator[Made]:
         yield driver("E9", f"a key with '{letter}' is out of the limits of the column key", "fault E9", of_anna(2, f"anna{letter}key1"))
 
 
+def all_leap_days() -> Iterator[Made]:
+    """The leap days of all years that are read, the last day of each month, and the day 0 of each."""
+    leap_days = "".join(f"{year}-02-29 00:00,{year}-02-29 00:01,rest\n" for year in range(2000, 2100, 4))
+    yield hours("CSV", "29 February of each leap year from 2000 to 2096 is entered", "read", HEAD + leap_days.encode())
+    for month in (1, 2, 12):
+        yield hours("E3", f"a start with day 0 of month {month}", "fault E3",
+                    HEAD + f"2024-{month:02}-00 00:00,2025-01-01 00:00,rest\n".encode())
+    for text, what in (("2024-03-04 00:00Z", "a Z"), ("2024/03/04 00:00", "slashes"), ("2024.03.04 00:00", "full stops"),
+                       ("2024-03-04 00:00+00:00", "an offset"), ('"2024-03-04 00:00\n"', "an end of line in quotes"),
+                       ("20240304 00:00", "no hyphens"), ("2024-03-04 0000", "no colon"), ("2024-03-04\t00:00", "a tab"),
+                       ("24-03-04 00:00", "a year of two digits"), ("12024-03-04 00:00", "a year of five digits")):
+        yield hours("E3", f"a start with {what}", "fault E3", HEAD + f"{text},2024-03-05 00:00,rest\n".encode())
+
+
+def other_dialects() -> Iterator[Made]:
+    """What some readers of CSV skip, or take for something else."""
+    rows = HEAD + REST
+    for text, what in ((b"sep=,\n" + rows, "a line names the separator"), (b"\xfe\xff" + rows, "two bytes mark UTF-16"),
+                       (b'"' + MARK + b'start",past,activity\n' + REST, "a byte order mark is in the first name's quotes"),
+                       (b"# hours\n" + rows, "a line that begins with # comes before the head"), (REST, "a row comes without a head")):
+        yield hours("E1", what, "fault E1", text)
+    for text, what in ((rows + b"\x1a", "byte 26 comes at the end"), (rows + b"# end\n", "a line that begins with # is a record"),
+                       (rows + b"\x0b", "byte 11 at the end is a record of one field"), (rows + b"\0", "byte 0 comes at the end"),
+                       (rows + "\u2028".encode(), "U+2028 at the end is a record of one field")):
+        yield hours("E2", what, "fault E2", text)
+    yield hours("E3", "the head comes twice, and the second is a row", "fault E3", HEAD + HEAD + REST)
+    yield hours("E3", "the head comes again after a row", "fault E3", HEAD + REST + HEAD)
+    for name in ("CREW", "Ferry", "crew ", "outs"):
+        yield hours("E6", f"the activity '{name}' isn't one, not even one that can't be entered", "fault E6",
+                    HEAD + REST.replace(b"rest", name.encode()))
+    for activity, more, other in (("crew", "13:00", "E5"), ("lunch", "13:00", "E6"), ("rest", "", "E7")):
+        past = f"2024-03-04 {more}" if more else "2025-03-05 12:00"
+        yield hours("E4", f"a row starts before the past of the row before, and has {other}: E4 comes first", "fault E4",
+                    HEAD + REST + f"2024-03-04 11:59,{past},{activity}\n".encode())
+
+
+def many_rows() -> Iterator[Made]:
+    """Texts of many rows: the row that is named is counted from the head, and empty lines don't count."""
+    def rows(count: int, minutes: int = 1) -> bytes:
+        return b"".join(f"2024-03-04 {m // 60:02}:{m % 60:02},2024-03-04 {(m + 1) // 60:02}:{(m + 1) % 60:02},rest\n".encode()
+                        for m in range(0, count * minutes, minutes))
+
+    for count in (9, 30):
+        yield hours("E6", f"row {count + 2} has an activity that isn't one, after {count} good rows", "fault E6",
+                    HEAD + rows(count) + b"2024-03-05 00:00,2024-03-05 00:01,lunch\n")
+    yield hours("E2", "row 3 has one field, after a hundred empty lines", "fault E2", HEAD + REST + b"\n" * 100 + b"a\n")
+    yield hours("CSV", "twelve rows are entered", "read", HEAD + rows(12, 2))
+    yield hours("E6", "an end of line in quotes doesn't begin a row: row 3 is named", "fault E6",
+                SIGNED + REST[:-1] + b",Eva,note\n" + b'2024-03-05 00:00,2024-03-05 00:01,"a\nb\n",Eva,note\n')
+
+
+ODD_TEXT = "=<b>&amp;\\;|'`\u2028\u202e\u200b\ufffd\U0001f69ae\u0301"
+
+
+def odd_texts() -> Iterator[Made]:
+    """Each control, and letters that some programs refuse or change."""
+    for byte in (0, 8, 9, 10, 11, 12, 13, 27, 28):
+        quoted = b'"a' + bytes([byte]) + b'b"'
+        yield hours("E10", f"a note with byte {byte}, in quotes", "fault E10", SIGNED + REST[:-1] + b",Eva," + quoted + b"\n")
+    for byte in (9, 13):
+        yield driver("E9", f"a name with byte {byte}, in quotes", "fault E9", of_anna(4, b'"a' + bytes([byte]) + b'b"'))
+    what = "signs of markup, of formulas, of direction, and a letter with an accent of its own are taken as they are"
+    yield hours("CSV", f"an author and a note: {what}", "read", SIGNED + REST[:-1] + f",{ODD_TEXT},{ODD_TEXT}\n".encode())
+    yield driver("CSV", f"a name: {what}", "read", of_anna(4, ODD_TEXT))
+    for key, what in (("12345678", "digits alone"), ("-anna-key", "a hyphen first"), ("anna-key-", "a hyphen last"),
+                      ("ANNAKEY1", "capitals")):
+        yield driver("CSV", f"a key of {what} is within its limits", "read", of_anna(2, key))
+    for column, value in enumerate(ANNA):
+        yield driver("E9", f"an end of line in quotes after the {DRIVER_HEAD[column].decode()} is a part of it", "fault E9",
+                     of_anna(column, f'"{value}\n"'))
+
+
 # Cases of both kinds, by the names of their generators.
-LATER = {"last-field": last_fields, "calendar": calendar, "letters": letters, "key": key_letters}
+LATER = {
+    "last-field": last_fields, "calendar": calendar, "letters": letters, "key": key_letters, "leap-day": all_leap_days,
+    "dialect": other_dialects, "many-rows": many_rows, "odd": odd_texts,
+}
 
 
 def texts() -> list[Made]:

@@ -1,6 +1,7 @@
 """Conformance cases of whole timelines: where the examination ends, the base, several rules at once, whole years, and stretches; and all
 cases of the rules together."""
 import random
+import re
 from collections.abc import Iterator
 
 from inputs import hard_timelines, vector_days, vector_rests
@@ -117,6 +118,36 @@ def calendar() -> Iterator[Made]:
         yield made("calendar", rule, "rest is held up to the end of 2099, where the days that are read end", "breach", tokens, base)
 
 
+# Timelines between known rests: nothing in them depends on how what isn't known is judged
+
+REST_AFTER = 2_700
+BETWEEN = "between known rests, "
+RESTED = ("B7", "B9", "apart", "long")  # the generators whose timelines most often depend on it
+# What is said of cases that need the base, the horizon, or a rest that isn't known, where it is.
+ENDS = re.compile("base|horizon|first rest|last rest|held")
+KEPT = 3  # one in so many stays as it is
+
+
+def can_be_rested(given: Given) -> bool:
+    """Whether there is room for a week before a timeline, and for a rest after it, in the days that are read."""
+    return given["base"] - WEEK >= hard_timelines.FIRST_BASE and given["spans"][-1][1] + REST_AFTER <= hard_timelines.LAST_PAST
+
+
+def in_known_rest(given: Given) -> Given:
+    """The same timeline after a week of known rest, and before 45 hours of it."""
+    base, past = given["base"], given["spans"][-1][1]
+    return {"base": base - WEEK, "spans": [[base - WEEK, base, "rest"], *given["spans"], [past, past + REST_AFTER, "rest"]]}
+
+
+def with_known_rests(cases: list[Made]) -> Iterator[Made]:
+    """The cases, of which most of some generators are put between known rests."""
+    for place, one in enumerate(cases):
+        if one.generator in RESTED and place % KEPT and not ENDS.search(one.why) and can_be_rested(one.given):
+            yield one._replace(why=one.why.replace(": ", f": {BETWEEN}", 1), given=in_known_rest(one.given))
+        else:
+            yield one
+
+
 # Several rules at once
 
 # Seeds of timelines of at most 90 spans and 25 breaches that break two rules or more: of `mixed` ones three or more.
@@ -145,12 +176,12 @@ def at_once() -> Iterator[Made]:
     """Timelines near many limits that break several rules."""
     for name, seeds in SEEDS.items():
         for seed in seeds:
-            spans, base, _ = MAKERS[name](seed)
-            found, debts = slow_rules.examine(*MAKERS[name](seed))
+            spans, base, past = MAKERS[name](seed)
+            found, debts = slow_rules.examine(spans, base, past)
             kinds = sorted({breach[0] for breach in found})
             owing = f", and {len(debts)} weeks owe" if debts else ""
             why = f"{listed(kinds)} at once: a timeline near many limits has {len(found)} breaches of these rules and of no other{owing}."
-            given = {"base": base, "spans": [[start, past, activity] for start, past, activity in spans]}
+            given = {"base": base, "spans": [[start, end, activity] for start, end, activity in spans]}
             yield Made("at-once", why, f"B{kinds[0]}", "breach", given)
 
 
@@ -192,7 +223,7 @@ def years() -> Iterator[Made]:
 
 def timelines() -> list[Made]:
     """All cases of timelines."""
-    found = [*vector_days.timelines(), *vector_rests.timelines()]
+    found = [*with_known_rests([*vector_days.timelines(), *vector_rests.timelines()])]
     for maker in (horizons, reasons, bases, calendar, at_once, years):
         found += maker()
     return found

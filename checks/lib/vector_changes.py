@@ -123,7 +123,8 @@ class Changed:
     def line(self, cases: Iterable[str]) -> dict[str, Any]:
         """The line of the change, with the cases that notice it."""
         function, old, new = self.change
-        return {"program": f"slow_{self.program}", "function": function, "old": old, "new": new, "turn": self.turn, "cases": list(cases)}
+        turn = {"turn": self.turn} if self.turn else {}
+        return {"program": f"slow_{self.program}", "function": function, "old": old, "new": new, **turn, "cases": list(cases)}
 
     def is_noticed_by(self, known: Known) -> bool:
         """Whether a case notices the change."""

@@ -36,6 +36,10 @@ IN_FILE_ORDER = (
     "    chosen = {\"first\": [first[0]], \"second\": [second[0]], \"both\": [value for value, _ in pairs]}[part]\n"
 )
 
+START = "    place, taken = oldest, 0\n"
+EMPTY = "    if oldest == newest and number(buffer, oldest + 2) == 0:"
+DATA = "    found = {kind: value for name, kind, value in reversed(blocks) if name == identifier}"
+
 READER = [
     # A place that isn't taken modulo N.
     of_reader("chains", "after-end large many-words", "C9 record length at {place}", f"C9 record length at {UNREDUCED}"),
@@ -59,6 +63,27 @@ READER = [
     # Several last words of one minute.
     of_reader("words", "at-once", "begun == len(words) - 1):",
               "begun == len(words) - 1 and (len(words) < 3 or words[-3] % 2048 < words[-1] % 2048)):"),
+    # Many records, lengths whose sum has too many bits, and a newest record that isn't of the last day.
+    *(of_reader("chains", "many-records", f"{START}    while True:", f"{START}    for _ in range({most}):") for most in (16, 32, 64)),
+    *(of_reader("chains", "many-records", *masked("    if lengths_before + length > n:", "lengths_before + length", bits))
+      for bits in (15, 16)),
+    of_reader("chains", "sequence contradiction", "not (place == newest and begun == len(words) - 1):",
+              "not (place == newest and begun == len(words) - 1 and day >= max((minute // 1440 for minute, _ in pairs), default=0)):"),
+    # A buffer without records.
+    of_reader("chains", "pointers", EMPTY, EMPTY.replace("== 0:", "< 12:")),
+    of_reader("chains", "pointers", EMPTY, EMPTY.replace("== 0:", "== number(buffer, oldest) == 0:")),
+    # Blocks that aren't read.
+    of_reader("files", "generations", DATA,
+              DATA.replace("{kind:", "{kind & 2:").replace("== identifier}", "== identifier and kind % 2 < 1}")),
+    of_reader("files", "generations", DATA, DATA.replace("== identifier}", "% 256 == identifier % 256}")),
+    of_reader("files", "generations", DATA, DATA.replace("if name ==", "if name % 32_768 ==")),
+    of_reader("files", "repeated", "        if identifier in (0x0504, 0x0520) and", "        if 0x0504 <= identifier <= 0x0520 and"),
+    of_reader("files", "block", "        offset = value + length\n",
+              "        offset = value + length if blocks[-1] != (0, 0, b\"\") else len(file)\n"),
+    of_reader("files", "holder", "    if len(holders) == 2:", "    if len({holder.lower() for holder in holders}) == 2:"),
+    # Contradictions that are looked for in a generation, before the other one is read.
+    of_reader("files", "contradicting", "    return [pair for value in values for pair in pairs_of_value(value)]",
+              "    return [pair for value in values for pair in map_of(pairs_of_value(value)).items()]"),
 ]
 
 RULES = [
@@ -79,6 +104,12 @@ def of_csv(generators: str, old: str, new: str) -> Written:
 
 
 DAY = "        day = date.fromisoformat(text.decode())\n"
+READ = "    return number if number in slow_reader.READ_DAYS else None"
+TIME = "([01][0-9]|2[0-3]):([0-5][0-9])\", text"
+ROW = "            found.append(fields)"
+WITHOUT_MARK = "    text = text.removeprefix(MARK)\n"
+PLAIN = "    return is_text(rb'[^\\x00-\\x1f\\x7f,\"]*', text)"
+KEY = "rb\"[0-9A-Za-z-]{8,64}\""
 
 CSV = [
     *(of_csv("calendar", DAY, f"        day = date.fromisoformat(text.decode().replace('-{month:02}-31', '-{month:02}-30'))\n")
@@ -91,6 +122,25 @@ CSV = [
            "            fields, place = record_from(text, place)\n"
            "            if fields != [b\"\"] or place < len(text):\n                found.append(fields)"),
     *(of_csv("key", "[0-9A-Za-z-]{8,64}", f"[{letters}-]{{8,64}}") for letters in ("0-9A-Ya-z", "0-9B-Za-z", "0-9A-Za-y")),
+    # Days and times.
+    *(of_csv("leap-day", READ, READ.replace(" else", f" and text != b\"{year}-02-29\" else")) for year in (2008, 2068)),
+    of_csv("leap-day", DAY, DAY.replace(".decode()", ".decode().replace(\"-12-00\", \"-12-01\")")),
+    of_csv("leap-day", TIME, TIME.replace("\"", "Z?\"")),
+    # What some readers of CSV skip, and rows that are counted in one digit.
+    of_csv("dialect", ROW, "            if fields[0][:1] != b\"#\":\n                found.append(fields)"),
+    of_csv("dialect", WITHOUT_MARK, WITHOUT_MARK + "    text = text.removesuffix(b\"\\x1a\")\n"),
+    of_csv("dialect", WITHOUT_MARK, WITHOUT_MARK + "    text = text.removeprefix(b\"sep=,\\n\")\n"),
+    of_csv("dialect", "    if activity in LEFT_OUT:", "    if activity.lower() in LEFT_OUT:"),
+    of_csv("dialect", "    if start >= past or start < before:",
+           "    if start >= past or start < before and activity in slow_reader.ACTIVITIES and past - start <= LONGEST:"),
+    of_csv("many-rows", "        found.append(entry_of(number,", "        found.append(entry_of(number % 10,"),
+    # Texts that are refused or changed.
+    of_csv("odd", PLAIN, PLAIN.replace("text)", "text) and b\"<\" not in text")),
+    of_csv("odd", PLAIN, PLAIN.replace("text)", "text.replace(b\"\\x1b\", b\"\"))")),
+    of_csv("odd", PLAIN, PLAIN.replace("text)", "text.replace(b\"\\r\", b\"\"))")),
+    of_csv("odd", PLAIN, PLAIN.replace("text)", "text) and \"\\u202e\" not in text.decode()")),
+    of_csv("odd", "    return re.fullmatch(pattern, text) is not None", "    return re.match(pattern + rb\"$\", text) is not None"),
+    of_csv("odd", KEY, "rb\"[A-Za-z-][0-9A-Za-z-]{7,63}\""),
 ]
 
 
@@ -145,6 +195,32 @@ HTTP = [
             "        is_wrong = any(re.fullmatch(\"0.*|[0-9]{7,}|whole\", word) for word in words[1:])\n"
             "        if is_wrong and words[0] in WITH_INPUT and not head.values(b\"content-length\"):\n            raise Refused(400)\n"
             "        return words, body_length(head, words[0])"),
+]
+HEAD_END = "        while self.next() not in LINE_END_BYTES:\n            self.field()\n"
+PATH = "form_of(head.target.decode())"
+LENGTH_OF = "    length = int(lengths[0]) if lengths else 0"
+NUMBER = "re.fullmatch(\"[1-9][0-9]{0,6}\", text)"
+
+HTTP += [
+    # What other servers read, skip or refuse.
+    *(of_http("strict", "server", PATH, PATH.replace("decode()", f"decode(){more}"))
+      for more in (".split(\"#\")[0]", ".replace(\"/./\", \"/\")", ".removeprefix(\"http://localhost\")", ".replace(\"\\\\\", \"/\")")),
+    of_http("strict", "server", HEAD_END, HEAD_END.replace(
+        "            self.field()", "            if self.fields and self.next() in b\" \":\n                self.run(VALUE_BYTES)\n"
+        "                self.line_end()\n                continue\n            self.field()")),
+    of_http("strict", "server", "            self.take([byte])\n", "            self.take([byte, *bytes([byte]).lower()])\n"),
+    of_http("strict", "server", "        self.take(b\" \")\n", "        self.take(b\" \\t\")\n"),
+    *(of_http("strict", "server", LENGTH_OF, f"    length = int(lengths[0]) % 2**{bits} if lengths else 0") for bits in (31, 32)),
+    of_http("strict", "server", "            if keys == [driver.key.encode()]:",
+            "            if [key.lower() for key in keys] == [driver.key.encode()]:"),
+    of_http("strict", "office", NUMBER, NUMBER.replace("[0-9]", "\\\\d")),
+    # Contradictions between card files, and in several rows; numbers after a withdrawal.
+    of_http("held", "archive", "download.marks.get(minute) == mark", "minute in download.marks"),
+    of_http("held", "archive", "if held.get(minute, mark) != mark]", "if held.get(minute, mark)[0] != mark[0]]"),
+    of_http("held", "archive", "        for entry in sorted(batch, key=lambda entry: entry.start):",
+            "        for entry in sorted(batch, key=lambda entry: -entry.start):"),
+    of_http("held", "archive", "        first = len(self.entries) + 1\n",
+            "        first = sum(not entry.is_withdrawn for entry in self.entries) + 1\n"),
 ]
 ENTRY_LINES = [
     of_http("report range", "office",
