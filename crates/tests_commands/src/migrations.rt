@@ -175,15 +175,20 @@ fn an_archive_is_carried_over_once(rt: HostRuntime) -> Result<(), Fail> {
     take(&rt, alloc, &mut archive, "carried over twice", &WEEKEND)
 }
 
+/// Asserts that a store has no archive to migrate, and keeps this many tables.
+fn assert_left_alone(rt: &impl Abort, conn: Connection<MemStore>, tables: usize) -> Result<(), Fail>
+    requires { conn.in_transaction ≡ false }
+{
+    let conn = refused(rt, Archive::migrate(conn), StoreFault::Store)?;
+    assert!(rt; conn.schema().tables.len() == tables);
+    Ok(())
+}
+
 #[test]
 fn a_store_without_an_archive_is_not_carried_over(rt: HostRuntime) -> Result<(), Fail> {
-    let conn = store_of(&rt, rt.alloc(), &[])?;
-    let conn = refused(&rt, Archive::migrate(conn), StoreFault::Store)?;
-    assert!(rt; conn.schema().tables.is_empty());
-    let conn = store_of(&rt, rt.alloc(), &["CREATE TABLE note (a INTEGER) STRICT"])?;
-    let conn = refused(&rt, Archive::migrate(conn), StoreFault::Store)?;
-    assert!(rt; conn.schema().tables.len() == 1);
-    Ok(())
+    let note = "CREATE TABLE note (a INTEGER) STRICT";
+    assert_left_alone(&rt, store_of(&rt, rt.alloc(), &[])?, 0)?;
+    assert_left_alone(&rt, store_of(&rt, rt.alloc(), &[note])?, 1)
 }
 
 /// Asserts that a store has no archive, neither one to open nor one to migrate.
