@@ -150,7 +150,7 @@ def of_other(program: str, name: str, source: str, statements: Sequence[str], po
         written(desk.path, source, statements)
         before = lying_at(desk.path)
         for words, given in [*WAYS, (["serve", KEY, port, "1"], b""), (["listen", port, "1"], f"{KEY}\n".encode())]:
-            yield f"{name}: {words[0]}", desk.run(words, given), STORE_FAILED
+            yield f"{name}: {words[0]}", desk.run(words, given)[:2], STORE_FAILED[:2]
             yield f"{name}: {words[0]}: what is there", (lying_at(desk.path), log_of(desk.path)), (before, b"")
 
 
