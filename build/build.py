@@ -43,7 +43,8 @@ SECONDS = {
     "tacho_choice": 22, "tacho_rests": 79, "tacho_rules": 53, "tacho_stretches": 50, "tacho_periods": 54, "tacho_evidence": 141,
     "tacho_ahead": 150, "tacho_state": 80, "tacho_carry": 110, "tacho_sheet": 490, "tacho_tar": 60, "tacho_handover": 120, "tacho_desk": 180,
     "tacho_tables": 259, "tacho_reading": 290,
-    "tacho_store": 510, "tacho_check": 290, "tacho_message": 63, "tacho_http": 85, "tacho_serve": 45, "tacho_cli": 150, "tacho_disk": 60, "tacho_jobs": 200,
+    "tacho_store": 510, "tacho_check": 290, "tacho_message": 63, "tacho_http": 85, "tacho_serve": 45, "tacho_cli": 150, "tacho_disk": 60,
+    "tacho_jobs": 200,
     "tacho": 400,
 }
 

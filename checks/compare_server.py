@@ -1005,7 +1005,8 @@ def comparisons(program: str) -> counting.Comparisons:
     questions: list[tuple[Any, ...]] = [(of_rows, started, name) for name in ROWS]
     questions += [(of_library, started), (of_document, started), (of_variety,)]
     if started:
-        questions += [(part, started) for part in [of_readings, of_leaving, of_pieces, of_arguments, of_unlistened, of_shared_key, of_listening]]
+        parts = [of_readings, of_leaving, of_pieces, of_arguments, of_unlistened, of_shared_key, of_listening]
+        questions += [(part, started) for part in parts]
         questions += [(of_seed, started, seed) for seed in range(SEEDS)]
     yield from pools.of_questions(questions, PROCESSES)
 

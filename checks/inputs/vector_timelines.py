@@ -125,7 +125,7 @@ BETWEEN = "between known rests, "
 RESTED = ("B7", "B9", "apart", "long")  # the generators whose timelines most often depend on it
 # What is said of cases that need the base, the horizon, or a rest that isn't known, where it is.
 ENDS = re.compile("base|horizon|first rest|last rest|held")
-KEPT = 3  # one in so many stays as it is
+KEPT = 3  # each third case stays as it is
 
 
 def can_be_rested(given: Given) -> bool:

@@ -11,7 +11,7 @@ from lib.crates import Listed
 WIDTH = 900
 MARGIN = 10
 PITCH = 52  # from one row to the next, where few lines are between
-FEW = 8  # so many lines
+FEW = 8  # lines
 MORE = 4  # for each line more
 HEAD = 34  # from a heading's top to its first row
 BOX = 26  # height of a crate's box
